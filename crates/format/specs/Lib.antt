@@ -1,0 +1,6 @@
+pub mod Bytes
+pub mod Classes
+pub mod FlagBits
+pub mod Layouts
+pub mod Refusals
+pub mod StatusWords

@@ -1,0 +1,3 @@
+pub mod Decoding
+pub mod AreaSteps
+pub mod Shapes

@@ -1,0 +1,4 @@
+pub mod Rules
+pub mod Areas
+pub mod TakingUp
+pub mod Soundness

@@ -1,0 +1,5 @@
+pub mod Handing
+pub mod ConsoleState
+pub mod ConsoleMachine
+pub mod ConsoleLaws
+pub mod Meaning

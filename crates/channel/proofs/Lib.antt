@@ -1,0 +1,4 @@
+pub mod Advancing
+pub mod Laying
+pub mod Outcomes
+pub mod Tables

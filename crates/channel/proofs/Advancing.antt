@@ -37,7 +37,8 @@ module _ (m : Machine) (F : Format) where
     bounded = omega (arith, c .bounded);
     taken = c .taken;
     running = λ j h. go j h;
-    early = λ h. c .early (omega arith) }
+    early = λ h. c .early (omega arith);
+  }
     where
       go : (j : ℕ) → j < suc n → is-ended (steps m F j w .run) ≡ false
       go zero h = e
@@ -52,5 +53,5 @@ module _ (m : Machine) (F : Format) where
             subst (λ (r : ℕ × World m). Counted m F (suc k) w (r .0) (r .1)) (sym (cond-true (is-ended (w .run)) (0, w) _ e)) (none-taken (suc k) w (λ h. e))
         | inr e ↦
             subst (λ (r : ℕ × World m). Counted m F (suc k) w (r .0) (r .1)) (sym (cond-false (is-ended (w .run)) (0, w) _ e))
-              (one-more k w (advanced m F k (stepped m F w) .0) (advanced m F k (stepped m F w) .1) e (counted k (stepped m F w)))
+            (one-more k w (advanced m F k (stepped m F w) .0) (advanced m F k (stepped m F w) .1) e (counted k (stepped m F w)))
       ]

@@ -19,10 +19,9 @@ use Rattle.device.specs.Laws.{Laws}
 use Rattle.device.proofs.Moving.{given-due, given-more, taken-more, taken-room}
 use Rattle.rules.specs.Areas.{sizes}
 
-pub lay-none : (xs st : List ℕ) → lay xs [] st ≡ st
-unfolding lay
-lay-none [] st = refl
-lay-none (a ∷ xs) st = refl
+lay-nowhere : (bs st : List ℕ) → lay [] bs st ≡ st
+lay-nowhere [] st = refl
+lay-nowhere (x ∷ bs) st = refl
 
 abbrev laid : ℕ → List ℕ → List ℕ → List ℕ
 laid at xs st = take at st ++ (xs ++ drop (at + length xs) st)
@@ -53,8 +52,8 @@ laid-set v x xs st h =
 
 -- the bytes of one piece laid one by one are laid at once
 run-lay : (v n : ℕ) (xs st : List ℕ) → v + n ≤ length st → lay (run false v n) xs st ≡ laid v (take n xs) st
-unfolding lay run
-run-lay v zero xs st h = sym (laid-none v st)
+unfolding run
+run-lay v zero xs st h = lay-nowhere xs st ∙ sym (laid-none v st)
 run-lay v (suc n) [] st h = sym (laid-none v st)
 run-lay v (suc n) (x ∷ xs) st h =
     let l : v + 1 + n ≤ length (set st v x) = simp length-set (omega arith) in
@@ -69,9 +68,8 @@ length-run k v zero = refl
 length-run k v (suc n) = ap suc (length-run k (onward k v 1) n)
 
 lay-append : (xs ys bs st : List ℕ) → lay (xs ++ ys) bs st ≡ lay ys (drop (length xs) bs) (lay xs bs st)
-unfolding lay
-lay-append [] ys bs st = refl
-lay-append (a ∷ xs) ys [] st = sym (ap (λ x. lay ys x st) (drop-nil (suc (length xs))) ∙ lay-none ys st)
+lay-append [] ys bs st = ap (lay ys bs) (sym (lay-nowhere bs st))
+lay-append (a ∷ xs) ys [] st = sym (ap (λ x. lay ys x st) (drop-nil (suc (length xs))))
 lay-append (a ∷ xs) ys (x ∷ bs) st = lay-append xs ys bs (set st a x)
 
 lay-piece : (k : Bool) (p : Piece) (ps : List Piece) (bs st : List ℕ) → lay (area k (p ∷ ps)) bs st ≡ lay (area k ps) (drop (p .size) bs) (lay (run k (p .first) (p .size)) bs st)
@@ -81,8 +79,8 @@ lay-piece k p ps bs st =
     ∙ ap (λ j. lay (area k ps) (drop j bs) (lay (run k (p .first) (p .size)) bs st)) (length-run k (p .first) (p .size))
 
 pub lay-nil : (k : Bool) (bs st : List ℕ) → lay (area k []) bs st ≡ st
-unfolding area lay
-lay-nil k bs st = refl
+unfolding area
+lay-nil k bs st = lay-nowhere bs st
 
 module _ {m : Machine} (laws : Laws m) (k : Bool) where
   -- one piece moved: what is left to do comes to the same
@@ -147,12 +145,12 @@ module _ {m : Machine} (laws : Laws m) (k : Bool) (b : ℕ → ℕ) where
       omega (arith, l)
 
 pub back-step : (v n x : ℕ) (xs st : List ℕ) → 0 < n → lay (run true v n) (x ∷ xs) st ≡ lay (run true (v - 1) (n - 1)) xs (set st v x)
-unfolding run lay
+unfolding run
 back-step v zero x xs st h = absurd (omega arith)
 back-step v (suc n) x xs st h = let e : n ≡ suc n - 1 = omega arith in ap (λ j. lay (run true (v - 1) j) xs (set st v x)) e
 
 pub lay-take : (k : Bool) (v n : ℕ) (bs st : List ℕ) → lay (run k v n) (take n bs) st ≡ lay (run k v n) bs st
-unfolding run lay
-lay-take k v zero bs st = refl
+unfolding run
+lay-take k v zero bs st = sym (lay-nowhere bs st)
 lay-take k v (suc n) [] st = refl
 lay-take k v (suc n) (x ∷ bs) st = lay-take k (onward k v 1) n bs (set st v x)

@@ -1,4 +1,4 @@
 pub mod Advancing
 pub mod Laying
-pub mod Outcomes
+pub mod Directions
 pub mod Tables

@@ -54,8 +54,8 @@ length-area k [] = refl
 length-area k (p ∷ ps) = length-append (addresses k (p .first) (p .size)) (area k ps) ∙ omega (arith, length-run k (p .first) (p .size), length-area k ps)
 
 lay-cut : (xs bs st : List ℕ) → lay xs (take (length xs) bs) st ≡ lay xs bs st
-unfolding lay
-lay-cut [] bs st = refl
+lay-cut [] [] st = refl
+lay-cut [] (x ∷ bs) st = refl
 lay-cut (a ∷ xs) [] st = refl
 lay-cut (a ∷ xs) (x ∷ bs) st = lay-cut xs bs (set st a x)
 

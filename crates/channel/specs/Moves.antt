@@ -18,9 +18,9 @@ use Rattle.channel.specs.declared.run.Next.{Next}
 use Rattle.channel.specs.declared.run.Next.the-variants.{Data, Command, End}
 
 -- the bytes laid at the addresses, as far as both go
-unfoldable pub lay : List ℕ → List ℕ → List ℕ → List ℕ
-lay [] bytes storage = storage
-lay (a ∷ addresses) [] storage = storage
+abbrev pub lay : List ℕ → List ℕ → List ℕ → List ℕ
+lay addresses [] storage = storage
+lay [] (x ∷ bytes) storage = storage
 lay (a ∷ addresses) (x ∷ bytes) storage = lay addresses bytes (set storage a x)
 
 -- the addresses of a CCW's area, in the order of the transfer, and what stands there
@@ -37,14 +37,14 @@ pub record Outcome (m : Machine) : Type 0 where
   pub next : Next
 
 -- the program goes on by CC exactly if CC is on, CD off, the device status 0C and no incorrect length raised
-unfoldable pub finished : Ccw → ℕ → ℕ → Bool → Next
+abbrev pub finished : Ccw → ℕ → ℕ → Bool → Next
 finished w status residual incorrect =
     cond (w .flags .cc && not (w .flags .cd) && eqb status 0x0C && not incorrect)
-      Command
-      (End status (cond incorrect 0x40 0) residual)
+    Command
+    (End status (cond incorrect 0x40 0) residual)
 
 -- after `moved` bytes, with `owed` bytes owed before them
-unfoldable pub settled : (m : Machine) → Ccw → ℕ → ℕ → List ℕ → m .State → Outcome m
+abbrev pub settled : (m : Machine) → Ccw → ℕ → ℕ → List ℕ → m .State → Outcome m
 settled m w owed moved bytes s =
     let still = owed - moved in
     let residual = w .count - moved in
@@ -65,16 +65,16 @@ moved-bytes m t s = cond (reading (t .code)) (cond (t .ccw .value .flags .skip) 
 abbrev pub moved-state : (m : Machine) → Cell → List ℕ → m .State → m .State
 moved-state m t bytes s = cond (reading (t .code)) (m .given (t .ccw .value .count) s) (m .taken bytes s)
 
-unfoldable pub moved : (m : Machine) → Cell → ℕ → List ℕ → m .State → Outcome m
+abbrev pub moved : (m : Machine) → Cell → ℕ → List ℕ → m .State → Outcome m
 moved m t owed bytes s = settled m (t .ccw .value) owed (moved-count m t bytes s) (moved-bytes m t s) (moved-state m t bytes s)
 
 -- an immediate command moves nothing, its residual is the count, and it raises no incorrect length
-unfoldable pub begun-as : (m : Machine) → Cell → List ℕ → Begun → m .State → Outcome m
+abbrev pub begun-as : (m : Machine) → Cell → List ℕ → Begun → m .State → Outcome m
 begun-as m t bytes (Immediate status) s = record { state = s; stored = []; next = finished (t .ccw .value) status (t .ccw .value .count) false }
 begun-as m t bytes (Open least most) s = moved m t least bytes s
 
 -- with no command in force the device begins the code
-unfoldable pub done-with : (m : Machine) → Cell → ℕ → List ℕ → m .State → Option ℕ → Outcome m
+abbrev pub done-with : (m : Machine) → Cell → ℕ → List ℕ → m .State → Option ℕ → Outcome m
 done-with m t owed bytes s None = begun-as m t bytes (m .begun (t .code) s .0) (m .begun (t .code) s .1)
 done-with m t owed bytes s (Some command) = moved m t owed bytes s
 

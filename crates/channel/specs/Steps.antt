@@ -39,7 +39,7 @@ onwards a code Command = Running (record { address = a + 8; first = false; comma
 onwards a code (End device subchannel residual) = Ended (status-of (a + 8) device subchannel residual)
 
 -- a CCW that was taken up
-unfoldable pub ran : (m : Machine) → Cell → ℕ → List ℕ → m .State → World m
+abbrev pub ran : (m : Machine) → Cell → ℕ → List ℕ → m .State → World m
 ran m t owed storage s =
     let o = done m t owed (gathered t storage) s in
     record { storage = lay (addresses-of t) (o .stored) storage; state = o .state; run = onwards (t .ccw .address) (t .code) (o .next) }
@@ -50,14 +50,14 @@ closed m None s = (0, s)
 closed m (Some command) s = m .ended s
 
 -- a broken rule: a program check, 8 above the CCW or TIC taken up; addresses have 32 bits
-unfoldable pub checked : (m : Machine) → Option ℕ → ℕ → List ℕ → m .State → World m
+abbrev pub checked : (m : Machine) → Option ℕ → ℕ → List ℕ → m .State → World m
 checked m command ccw storage s = record { storage = storage; state = closed m command s .1; run = Ended (status-of ((ccw + 8) % 2 ^ 32) (closed m command s .0) 0x20 0) }
 
-unfoldable pub stepped-as : (m : Machine) → Option ℕ → ℕ → List ℕ → m .State → Result Cell Broken → World m
+abbrev pub stepped-as : (m : Machine) → Option ℕ → ℕ → List ℕ → m .State → Result Cell Broken → World m
 stepped-as m command owed storage s (Ok t) = ran m t owed storage s
 stepped-as m command owed storage s (Err e) = checked m command (e .ccw) storage s
 
-unfoldable pub stepped-from : (m : Machine) → Format → List ℕ → m .State → Run → World m
+abbrev pub stepped-from : (m : Machine) → Format → List ℕ → m .State → Run → World m
 stepped-from m F storage s (Running place owed) = stepped-as m (place .command) owed storage s (taken-up F storage place)
 stepped-from m F storage s (Ended status) = record { storage = storage; state = s; run = Ended status }
 
@@ -91,11 +91,12 @@ pub record Counted (m : Machine) (F : Format) (k : ℕ) (before : World m) (coun
 
 -- a halt: subchannel status 00, no residual, 8 above the last CCW run, or 0 if none was; a place that is not the
 -- first stands 8 above the last CCW run
-unfoldable pub halted-from : (m : Machine) → List ℕ → m .State → Run → World m
+abbrev pub halted-from : (m : Machine) → List ℕ → m .State → Run → World m
 halted-from m storage s (Running place owed) = record {
   storage = storage;
   state = closed m (place .command) s .1;
-  run = Ended (status-of (cond (place .first) 0 (place .address)) (closed m (place .command) s .0) 0 0) }
+  run = Ended (status-of (cond (place .first) 0 (place .address)) (closed m (place .command) s .0) 0 0);
+}
 halted-from m storage s (Ended status) = record { storage = storage; state = s; run = Ended status }
 
 abbrev pub halted : (m : Machine) → World m → World m

@@ -35,7 +35,12 @@ fn store_downward(storage: &mut [u8], first: usize, size: usize, bytes: &[u8])
 }
 
 // One piece downward, through a scratch as long as the piece.
-fn read_through<D: Device>(storage: &mut [u8], first: usize, scratch: &mut [u8], device: &mut D) -> usize
+fn read_through<D: Device>(
+    storage: &mut [u8],
+    first: usize,
+    scratch: &mut [u8],
+    device: &mut D,
+) -> usize
     requires { ⌜ first < length (now storage) ⌝ ∗ ⌜ length (now scratch) ≤ first + 1 ⌝ }
     ensures moved { λ r. ⌜ r ≡ min (length (now (scratch .entry))) (length (due (machine .pending (state (now (device .entry)))))) ⌝ }
     ensures bytes { λ _. ⌜ now (storage .exit) ≡ lay (addresses true first (length (now (scratch .entry)))) (due (machine .pending (state (now (device .entry))))) (now (storage .entry)) ⌝ }
@@ -71,7 +76,13 @@ fn read_piece<D: Device>(storage: &mut [u8], backward: bool, piece: Piece, devic
 }
 
 // A reading command: from the device into storage.
-pub(crate) fn read_pieces<D: Device>(storage: &mut [u8], backward: bool, pieces: &Pieces, count: u16, device: &mut D) -> usize
+pub(crate) fn read_pieces<D: Device>(
+    storage: &mut [u8],
+    backward: bool,
+    pieces: &Pieces,
+    count: u16,
+    device: &mut D,
+) -> usize
     requires { ⌜ Shaped backward (length (now storage)) false count (listed (now pieces)) ⌝ }
     ensures moved { λ r. ⌜ r ≡ min (sizes (listed (now (pieces .entry)))) (length (due (machine .pending (state (now (device .entry)))))) ⌝ }
     ensures bytes { λ _. ⌜ now (storage .exit) ≡ lay (area backward (listed (now (pieces .entry)))) (due (machine .pending (state (now (device .entry))))) (now (storage .entry)) ⌝ }
@@ -93,7 +104,12 @@ fn write_piece<D: Device>(storage: &[u8], first: usize, size: usize, device: &mu
 }
 
 // A writing command: from storage to the device.
-pub(crate) fn write_pieces<D: Device>(storage: &[u8], pieces: &Pieces, count: u16, device: &mut D) -> usize
+pub(crate) fn write_pieces<D: Device>(
+    storage: &[u8],
+    pieces: &Pieces,
+    count: u16,
+    device: &mut D,
+) -> usize
     requires { ⌜ Shaped false (length (now storage)) false count (listed (now pieces)) ⌝ }
     ensures moved { λ r. ⌜ r ≡ min (sizes (listed (now (pieces .entry)))) (room (machine .pending (state (now (device .entry))))) ⌝ }
     ensures became { λ _. ⌜ state (now (device .exit)) ≡ machine .taken (map (reader (now (storage .entry))) (area false (listed (now (pieces .entry))))) (state (now (device .entry))) ⌝ }

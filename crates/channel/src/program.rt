@@ -32,8 +32,15 @@ impl Program {
     pub fn start(format: Format, address: u32) -> Program
         ensures { λ r. ⌜ (r .format ≡ format) × (r .run ≡ started address) ⌝ }
     {
-        let place = Place { address, first: true, command: None };
-        Program { format, run: Run::Running { place, owed: 0 } }
+        let place = Place {
+            address,
+            first: true,
+            command: None,
+        };
+        Program {
+            format,
+            run: Run::Running { place, owed: 0 },
+        }
     }
 
     // One CCW. A program that has ended stays as it is.
@@ -79,7 +86,10 @@ impl Program {
             self.step(storage, device);
             count += 1;
         }
-        Progress { count, ended: !self.is_running() }
+        Progress {
+            count,
+            ended: !self.is_running(),
+        }
     }
 
     // Ends a program that is still running.

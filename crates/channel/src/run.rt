@@ -13,8 +13,14 @@ pub enum Run {
 #[derive(Clone, Copy)]
 pub enum Next {
     // With the same command in force, and this many bytes still owed.
-    Data { owed: u32 },
+    Data {
+        owed: u32,
+    },
     // With no command in force.
     Command,
-    End { device_status: u8, subchannel_status: u8, residual: u16 },
+    End {
+        device_status: u8,
+        subchannel_status: u8,
+        residual: u16,
+    },
 }

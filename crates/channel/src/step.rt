@@ -1,8 +1,8 @@
 ghost use mathlib.Core.Path.{_≡_};
-ghost use mathlib.Core.List.{List};
+ghost use mathlib.Core.List.{List, []};
 ghost use mathlib.Core.Bool.{Bool, true, false};
 ghost use Prim.Native.Nat.{ℕ, _+_, _^_, _≤_, min};
-ghost use lib.ListN.{length};
+ghost use lib.ListN.{length, take as front};
 ghost use Rattle.device.specs.Machine.{Machine, due, room};
 ghost use Rattle.rules.specs.Soundness.{Sound};
 ghost use Rattle.rules.specs.TakingUp.{cell-of, reading, backward, reach};
@@ -29,7 +29,50 @@ use rules::taking_up::take_up;
 const CHANNEL_END_DEVICE_END: u8 = 0x0C;
 // Subchannel status.
 const INCORRECT_LENGTH: u8 = 0x40;
+
 const PROGRAM_CHECK: u8 = 0x20;
+
+// A reading CCW without SKIP.
+fn read_area<D: Device>(storage: &mut [u8], taken: &Taken, device: &mut D) -> usize
+    requires { ⌜ Sound (reach (now storage)) (cell-of (now taken)) ⌝ }
+    ensures count { λ r. ⌜ r ≡ length (front (now (taken .entry) .ccw .value .count) (due (machine .pending (state (now (device .entry)))))) ⌝ }
+    ensures bytes { λ _. ⌜ now (storage .exit) ≡ lay (addresses-of (cell-of (now (taken .entry)))) (front (now (taken .entry) .ccw .value .count) (due (machine .pending (state (now (device .entry)))))) (now (storage .entry)) ⌝ }
+    ensures became { λ _. ⌜ state (now (device .exit)) ≡ machine .given (now (taken .entry) .ccw .value .count) (state (now (device .entry))) ⌝ }
+    ensures bounded { λ r. ⌜ r ≤ now (taken .entry) .ccw .value .count ⌝ }
+{
+    read_pieces(
+        storage,
+        Class::of(taken.code).backward(),
+        &taken.pieces,
+        taken.ccw.value.count,
+        device,
+    )
+}
+
+// A reading CCW with SKIP.
+fn skip_area<D: Device>(taken: &Taken, device: &mut D) -> usize
+    ensures count { λ r. ⌜ r ≡ length (front (now (taken .entry) .ccw .value .count) (due (machine .pending (state (now (device .entry)))))) ⌝ }
+    ensures became { λ _. ⌜ state (now (device .exit)) ≡ machine .given (now (taken .entry) .ccw .value .count) (state (now (device .entry))) ⌝ }
+    ensures bounded { λ r. ⌜ r ≤ now (taken .entry) .ccw .value .count ⌝ }
+{
+    skip(taken.ccw.value.count as usize, device)
+}
+
+// A writing CCW.
+fn write_area<D: Device>(storage: &[u8], taken: &Taken, device: &mut D) -> usize
+    requires { ⌜ Sound (reach (now storage)) (cell-of (now taken)) ⌝ ∗ ⌜ reading (now taken .code) ≡ false ⌝ }
+    ensures count { λ r. ⌜ r ≡ min (length (gathered (cell-of (now (taken .entry))) (now (storage .entry)))) (room (machine .pending (state (now (device .entry))))) ⌝ }
+    ensures became { λ _. ⌜ state (now (device .exit)) ≡ machine .taken (gathered (cell-of (now (taken .entry))) (now (storage .entry))) (state (now (device .entry))) ⌝ }
+    ensures bounded { λ r. ⌜ r ≤ now (taken .entry) .ccw .value .count ⌝ }
+{
+    write_pieces(storage, &taken.pieces, taken.ccw.value.count, device)
+}
+
+fn reads(code: u8) -> bool
+    ensures { λ r. ⌜ r ≡ reading code ⌝ }
+{
+    Class::of(code).reads()
+}
 
 // Moves the bytes of one CCW, and answers how many.
 fn move_area<D: Device>(storage: &mut [u8], taken: &Taken, device: &mut D) -> usize
@@ -39,15 +82,13 @@ fn move_area<D: Device>(storage: &mut [u8], taken: &Taken, device: &mut D) -> us
     ensures became { λ _. ⌜ state (now (device .exit)) ≡ moved-state machine (cell-of (now (taken .entry))) (gathered (cell-of (now (taken .entry))) (now (storage .entry))) (state (now (device .entry))) ⌝ }
     ensures bounded { λ r. ⌜ r ≤ now (taken .entry) .ccw .value .count ⌝ }
 {
-    let ccw = taken.ccw.value;
-    let class = Class::of(taken.code);
-    if class.reads() {
-        if ccw.flags.skip {
-            return skip(ccw.count as usize, device);
-        }
-        return read_pieces(storage, class.backward(), &taken.pieces, ccw.count, device);
+    if !reads(taken.code) {
+        return write_area(storage, taken, device);
     }
-    write_pieces(storage, &taken.pieces, ccw.count, device)
+    if taken.ccw.value.flags.skip {
+        return skip_area(taken, device);
+    }
+    read_area(storage, taken, device)
 }
 
 fn finish(ccw: Ccw, status: u8, residual: u16, incorrect: bool) -> Next
@@ -57,7 +98,11 @@ fn finish(ccw: Ccw, status: u8, residual: u16, incorrect: bool) -> Next
         return Next::Command;
     }
     let subchannel_status = if incorrect { INCORRECT_LENGTH } else { 0 };
-    Next::End { device_status: status, subchannel_status, residual }
+    Next::End {
+        device_status: status,
+        subchannel_status,
+        residual,
+    }
 }
 
 // What follows a move of `moved` bytes.
@@ -97,7 +142,12 @@ fn run_ccw<D: Device>(storage: &mut [u8], taken: &Taken, owed: u32, device: &mut
     match taken.before {
         Some(_) => move_and_settle(storage, taken, owed, device),
         None => match device.begin(taken.code) {
-            Begun::Immediate(status) => finish(taken.ccw.value, status, taken.ccw.value.count, false),
+            Begun::Immediate(status) => finish(
+                taken.ccw.value,
+                status,
+                taken.ccw.value.count,
+                false,
+            ),
             Begun::Open { least, most: _ } => move_and_settle(storage, taken, least, device),
         },
     }
@@ -110,10 +160,35 @@ fn go_on(address: u32, code: u8, next: Next) -> Run
 {
     let address = address + 8;
     match next {
-        Next::Data { owed } => Run::Running { place: Place { address, first: false, command: Some(code) }, owed },
-        Next::Command => Run::Running { place: Place { address, first: false, command: None }, owed: 0 },
-        Next::End { device_status, subchannel_status, residual } => {
-            Run::Ended { status: StatusWord { ccw_address: address, device_status, subchannel_status, residual } }
+        Next::Data { owed } => Run::Running {
+            place: Place {
+                address,
+                first: false,
+                command: Some(code),
+            },
+            owed,
+        },
+        Next::Command => Run::Running {
+            place: Place {
+                address,
+                first: false,
+                command: None,
+            },
+            owed: 0,
+        },
+        Next::End {
+            device_status,
+            subchannel_status,
+            residual,
+        } => {
+            Run::Ended {
+                status: StatusWord {
+                    ccw_address: address,
+                    device_status,
+                    subchannel_status,
+                    residual,
+                },
+            }
         }
     }
 }
@@ -131,8 +206,8 @@ pub(crate) fn close<D: Device>(command: Option<u8>, device: &mut D) -> u8
 
 // A program check, counted from the CCW or TIC that was being taken up.
 fn check_program<D: Device>(command: Option<u8>, ccw: u32, device: &mut D) -> Run
-    ensures run { λ r. ⌜ ((storage : List ℕ) → r ≡ checked machine command ccw storage (state (now (device .entry))) .run) ⌝ }
-    ensures became { λ _. ⌜ ((storage : List ℕ) → state (now (device .exit)) ≡ checked machine command ccw storage (state (now (device .entry))) .state) ⌝ }
+    ensures run { λ r. ⌜ r ≡ checked machine command ccw [] (state (now (device .entry))) .run ⌝ }
+    ensures became { λ _. ⌜ state (now (device .exit)) ≡ checked machine command ccw [] (state (now (device .entry))) .state ⌝ }
 {
     let status = StatusWord {
         ccw_address: ccw.wrapping_add(8),
@@ -144,7 +219,12 @@ fn check_program<D: Device>(command: Option<u8>, ccw: u32, device: &mut D) -> Ru
 }
 
 // One step of a run.
-pub(crate) fn step_run<D: Device>(storage: &mut [u8], format: Format, run: Run, device: &mut D) -> Run
+pub(crate) fn step_run<D: Device>(
+    storage: &mut [u8],
+    format: Format,
+    run: Run,
+    device: &mut D,
+) -> Run
     ensures run { λ r. ⌜ r ≡ stepped-from machine format (now (storage .entry)) (state (now (device .entry))) run .run ⌝ }
     ensures bytes { λ _. ⌜ now (storage .exit) ≡ stepped-from machine format (now (storage .entry)) (state (now (device .entry))) run .storage ⌝ }
     ensures became { λ _. ⌜ state (now (device .exit)) ≡ stepped-from machine format (now (storage .entry)) (state (now (device .entry))) run .state ⌝ }
@@ -154,6 +234,10 @@ pub(crate) fn step_run<D: Device>(storage: &mut [u8], format: Format, run: Run, 
     };
     match take_up(&Plain { storage }, format, place) {
         Err(broken) => check_program(place.command, broken.ccw, device),
-        Ok(taken) => go_on(taken.ccw.address, taken.code, run_ccw(storage, &taken, owed, device)),
+        Ok(taken) => go_on(
+            taken.ccw.address,
+            taken.code,
+            run_ccw(storage, &taken, owed, device),
+        ),
     }
 }

@@ -28,7 +28,6 @@ weighed false = (0, record { low = omega arith; is = refl; weighs = λ w. sym (m
 
 -- the flags from their byte, each bit by itself
 pub flags-back : (f : Flags) → flags-of (flags-byte f) ≡ f
-unfolding flags-of flags-byte
 flags-back f =
     let a = weighed (f .cd) in
     let b = weighed (f .cc) in
@@ -66,7 +65,6 @@ word-back n = omega arith
 
 -- a CCW from its eight bytes
 pub ccw-back : (w : Ccw) → w .code < 256 → w .count < 65536 → ccw-at One (reader (ccw-bytes w)) 0 ≡ w
-unfolding ccw-at ccw-bytes half-word-at word-at half-word-bytes word-bytes
 ccw-back w c n =
     let code : w .code % 256 ≡ w .code = omega arith in
     λ i. record { code = code i; flags = flags-back (w .flags) i; count = half-word-back (w .count) n i; address = word-back (w .address) i }

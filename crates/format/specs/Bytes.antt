@@ -11,18 +11,18 @@ Reader = ℕ → ℕ
 abbrev pub reader : List ℕ → Reader
 reader bytes address = getD bytes address 0
 
-unfoldable pub half-word-at : Reader → ℕ → ℕ
+abbrev pub half-word-at : Reader → ℕ → ℕ
 half-word-at b a = b a * 256 + b (a + 1)
 
-unfoldable pub three-bytes-at : Reader → ℕ → ℕ
+abbrev pub three-bytes-at : Reader → ℕ → ℕ
 three-bytes-at b a = b a * 65536 + b (a + 1) * 256 + b (a + 2)
 
-unfoldable pub word-at : Reader → ℕ → ℕ
+abbrev pub word-at : Reader → ℕ → ℕ
 word-at b a = b a * 16777216 + b (a + 1) * 65536 + b (a + 2) * 256 + b (a + 3)
 
 -- the fields of a number
-unfoldable pub half-word-bytes : ℕ → List ℕ
+abbrev pub half-word-bytes : ℕ → List ℕ
 half-word-bytes n = n / 256 ∷ n % 256 ∷ []
 
-unfoldable pub word-bytes : ℕ → List ℕ
+abbrev pub word-bytes : ℕ → List ℕ
 word-bytes n = n / 256 / 256 / 256 ∷ n / 256 / 256 % 256 ∷ n / 256 % 256 ∷ n % 256 ∷ []

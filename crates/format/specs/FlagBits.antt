@@ -8,7 +8,7 @@ use Rattle.format.specs.declared.flags.Flags.{Flags}
 abbrev pub on : ℕ → ℕ → Bool
 on weight byte = eqb (byte / weight % 2) 1
 
-unfoldable pub flags-of : ℕ → Flags
+abbrev pub flags-of : ℕ → Flags
 flags-of byte = record {
   cd = on 128 byte;
   cc = on 64 byte;
@@ -23,7 +23,7 @@ flags-of byte = record {
 abbrev pub weight-if : Bool → ℕ → ℕ
 weight-if flag weight = cond flag weight 0
 
-unfoldable pub flags-byte : Flags → ℕ
+abbrev pub flags-byte : Flags → ℕ
 flags-byte f =
     weight-if (f .cd) 128 + weight-if (f .cc) 64 + weight-if (f .sli) 32 + weight-if (f .skip) 16
     + weight-if (f .pci) 8 + weight-if (f .ida) 4 + weight-if (f .suspend) 2 + weight-if (f .mida) 1

@@ -10,10 +10,10 @@ use Rattle.format.specs.Bytes.{Reader, half-word-at, three-bytes-at, word-at, 
 use Rattle.format.specs.FlagBits.{flags-of, flags-byte}
 
 -- code and count are taken modulo what one and two bytes hold, since a list of numbers does not say that each is a byte
-unfoldable pub ccw-at : Format → Reader → ℕ → Ccw
+abbrev pub ccw-at : Format → Reader → ℕ → Ccw
 ccw-at Zero b a = record { code = b a % 256; flags = flags-of (b (a + 4)); count = half-word-at b (a + 6) % 65536; address = three-bytes-at b (a + 1) }
 ccw-at One b a = record { code = b a % 256; flags = flags-of (b (a + 1)); count = half-word-at b (a + 2) % 65536; address = word-at b (a + 4) }
 
 -- the eight bytes of a format 1 CCW
-unfoldable pub ccw-bytes : Ccw → List ℕ
+abbrev pub ccw-bytes : Ccw → List ℕ
 ccw-bytes w = w .code ∷ flags-byte (w .flags) ∷ (half-word-bytes (w .count) ++ word-bytes (w .address))

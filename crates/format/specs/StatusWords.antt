@@ -5,5 +5,5 @@ use Prim.Native.Nat.{ℕ}
 use Rattle.format.specs.declared.status.StatusWord.{StatusWord}
 use Rattle.format.specs.Bytes.{half-word-bytes, word-bytes}
 
-unfoldable pub status-bytes : StatusWord → List ℕ
+abbrev pub status-bytes : StatusWord → List ℕ
 status-bytes w = word-bytes (w .«ccw_address») ++ (w .«device_status» ∷ w .«subchannel_status» ∷ half-word-bytes (w .residual))

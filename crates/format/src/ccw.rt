@@ -44,13 +44,19 @@ impl Ccw {
         }
     }
 
-    // The eight bytes of a format 1 CCW.
+    // The eight bytes of a format 1 CCW, from which it comes back.
     pub fn encode(self) -> [u8; 8]
         ensures is { λ r. ⌜ r ≡ ccw-bytes self ⌝ }
         ensures back { λ r. ⌜ ccw-at Format.One (reader r) 0 ≡ self ⌝ }
     {
-        let [c0, c1] = half_word_to_bytes(self.count);
-        let [a0, a1, a2, a3] = word_to_bytes(self.address);
-        [self.code, self.flags.to_byte(), c0, c1, a0, a1, a2, a3]
+        lay_out(self)
     }
+}
+
+fn lay_out(ccw: Ccw) -> [u8; 8]
+    ensures { λ r. ⌜ r ≡ ccw-bytes ccw ⌝ }
+{
+    let [c0, c1] = half_word_to_bytes(ccw.count);
+    let [a0, a1, a2, a3] = word_to_bytes(ccw.address);
+    [ccw.code, ccw.flags.to_byte(), c0, c1, a0, a1, a2, a3]
 }

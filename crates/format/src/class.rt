@@ -22,11 +22,7 @@ fn only_eight(format: Format, code: u8, class: Class) -> Class
 {
     match (format, class) {
         (Format::One, Class::TransferInChannel) => {
-            if code == 8 {
-                class
-            } else {
-                Class::Invalid
-            }
+            if code == 8 { class } else { Class::Invalid }
         }
         _ => class,
     }

@@ -34,6 +34,20 @@ fn weighted(flag: bool, weight: u8) -> u8
     if flag { weight } else { 0 }
 }
 
+fn sum_of_weights(flags: Flags) -> u8
+    ensures { λ r. ⌜ r ≡ flags-byte flags ⌝ }
+{
+    let high = weighted(flags.cd, 0x80)
+        + weighted(flags.cc, 0x40)
+        + weighted(flags.sli, 0x20)
+        + weighted(flags.skip, 0x10);
+    let low = weighted(flags.pci, 0x08)
+        + weighted(flags.ida, 0x04)
+        + weighted(flags.suspend, 0x02)
+        + weighted(flags.mida, 0x01);
+    high + low
+}
+
 impl Flags {
     pub fn from_byte(byte: u8) -> Flags
         ensures { λ r. ⌜ r ≡ flags-of byte ⌝ }
@@ -50,19 +64,12 @@ impl Flags {
         }
     }
 
+    // The byte, from which the flags come back.
     pub fn to_byte(self) -> u8
         ensures is { λ r. ⌜ r ≡ flags-byte self ⌝ }
         ensures back { λ r. ⌜ flags-of r ≡ self ⌝ }
     {
-        let high = weighted(self.cd, 0x80)
-            + weighted(self.cc, 0x40)
-            + weighted(self.sli, 0x20)
-            + weighted(self.skip, 0x10);
-        let low = weighted(self.pci, 0x08)
-            + weighted(self.ida, 0x04)
-            + weighted(self.suspend, 0x02)
-            + weighted(self.mida, 0x01);
-        high + low
+        sum_of_weights(self)
     }
 
     // Whether any bit is on.

@@ -75,7 +75,6 @@ module _ (back : Bool) (L : ℕ) (b : Reader) (ccw : ℕ) where
   pub word-ok : (later : Bool) (at left : ℕ) (p : Piece) → one-word back L b ccw later at left ≡ Ok p
       → (at + 4 ≤ L) × ((later && not (enters back (word-at b at))) ≡ false) × (outside back L (word-at b at) (min left (serves back (word-at b at))) ≡ false)
       × (p ≡ record { first = word-at b at; size = min left (serves back (word-at b at)) })
-  unfolding one-word
   word-ok later at left p e =
       let v : ℕ = word-at b at in
       let n : ℕ = min left (serves back v) in
@@ -83,11 +82,6 @@ module _ (back : Bool) (L : ℕ) (b : Reader) (ccw : ℕ) where
       let u9 = unless-ok (later && not (enters back v)) _ ccw _ p (u8 .1) in
       let u10 = unless-ok (outside back L v n) _ ccw _ p (u9 .1) in
       (ltb-false L (at + 4) (u8 .0), u9 .0, u10 .0, let z = u10 .1 in cc)
-
-  -- a word inside storage
-  pub word-inside : (later : Bool) (at left : ℕ) → at + 4 ≤ L → word-serves back L ccw later at (word-at b at) left ≡ one-word back L b ccw later at left
-  unfolding one-word
-  word-inside later at left h = let t = le-ltb L (at + 4) h in rw t refl
 
   -- the size of the piece that it serves
   pub word-made : (later : Bool) (at left : ℕ) (r : Result Piece Broken) → r ≡ one-word back L b ccw later at left → 0 < left
@@ -116,8 +110,8 @@ module _ (back : Bool) (L : ℕ) (b : Reader) (ccw : ℕ) where
   words-rounds (suc f) zero later at (suc left) p q = absurd (omega arith)
   words-rounds (suc f) (suc g) later at (suc left) p q =
       bind-same (one-word back L b ccw later at (suc left)) _ _ (λ w e.
-        let s = word-sized later at (suc left) w (omega arith) e in
-        ap (λ (r : Result (List Piece) Broken). bind r (λ ps. Ok (w ∷ ps))) (words-rounds f g true (at + 4) (suc left - w .size) (omega arith) (omega arith)))
+      let s = word-sized later at (suc left) w (omega arith) e in
+      ap (λ (r : Result (List Piece) Broken). bind r (λ ps. Ok (w ∷ ps))) (words-rounds f g true (at + 4) (suc left - w .size) (omega arith) (omega arith)))
 
   pub words-step : (later : Bool) (at left : ℕ) → 0 < left
       → by-words back L b ccw left later at left ≡ bind (one-word back L b ccw later at left) (λ p. bind (by-words back L b ccw (left - p .size) true (at + 4) (left - p .size)) (λ ps. Ok (p ∷ ps)))
@@ -125,8 +119,8 @@ module _ (back : Bool) (L : ℕ) (b : Reader) (ccw : ℕ) where
   words-step later at zero h = absurd (omega arith)
   words-step later at (suc left) h =
       bind-same (one-word back L b ccw later at (suc left)) _ _ (λ w e.
-        let s = word-sized later at (suc left) w (omega arith) e in
-        ap (λ (r : Result (List Piece) Broken). bind r (λ ps. Ok (w ∷ ps))) (words-rounds left (suc left - w .size) true (at + 4) (suc left - w .size) (omega arith) (omega arith)))
+      let s = word-sized later at (suc left) w (omega arith) e in
+      ap (λ (r : Result (List Piece) Broken). bind r (λ ps. Ok (w ∷ ps))) (words-rounds left (suc left - w .size) true (at + 4) (suc left - w .size) (omega arith) (omega arith)))
 
   pub words-none : (f : ℕ) (later : Bool) (at : ℕ) → by-words back L b ccw f later at 0 ≡ Ok []
   unfolding by-words

@@ -41,10 +41,13 @@ words-shaped back L b ccw (suc rounds) later at (suc left) ps h e =
     let first : p .first ≡ v = ap (λ (x : Piece). x .first) (w .3) in
     let size : p .size ≡ min (suc left) (serves back v) = ap (λ (x : Piece). x .size) (w .3) in
     let sh : Shaped back L true (suc left - p .size) (rest .0) = words-shaped back L b ccw rounds true (at + 4) (suc left - p .size) (rest .0) (omega arith) (rest .1) in
-    let all : Shaped back L later (suc left) (p ∷ rest .0) =
-    (omega arith, size ∙ ap (λ x. min (suc left) (serves back x)) (sym first),
-     λ l. ap (enters back) first ∙ later-enters later (enters back v) (w .1) l,
-     ap (λ x. outside back L x (p .size)) first ∙ ap (outside back L v) size ∙ w .2, sh) in
+    let all : Shaped back L later (suc left) (p ∷ rest .0) = (
+      omega arith,
+      size ∙ ap (λ x. min (suc left) (serves back x)) (sym first),
+      λ l. ap (enters back) first ∙ later-enters later (enters back v) (w .1) l,
+      ap (λ x. outside back L x (p .size)) first ∙ ap (outside back L v) size ∙ w .2,
+      sh,
+    ) in
     subst (Shaped back L later (suc left)) q all
 
 step-inside : (back : Bool) (L v n left : ℕ) → n ≡ min left (serves back v) → outside back L v left ≡ false → outside back L v n ≡ false
@@ -70,12 +73,15 @@ cut-shaped back L zero later v (suc left) h o s = let z : ⊥ = omega arith in a
 cut-shaped back L (suc rounds) later v (suc left) h o s =
     let n : ℕ = min (suc left) (serves back v) in
     let pos = serves-some back v in
-    let out = o (omega arith) in
-    (omega arith, refl, s (omega arith), step-inside back L v n (suc left) refl out,
-     cut-shaped back L rounds true (onward back v n) (suc left - n) (omega arith) (λ z. step-onward back L v n (suc left) refl out z .0) (λ z _. step-onward back L v n (suc left) refl out z .1))
+    let out = o (omega arith) in (
+      omega arith,
+      refl,
+      s (omega arith),
+      step-inside back L v n (suc left) refl out,
+      cut-shaped back L rounds true (onward back v n) (suc left - n) (omega arith) (λ z. step-onward back L v n (suc left) refl out z .0) (λ z _. step-onward back L v n (suc left) refl out z .1),
+    )
 
 pub pieces-shaped : (L : ℕ) (b : Reader) (a : ℕ) (w : Ccw) (back indirect : Bool) (ps : List Piece) → pieces-of L b a w back indirect ≡ Ok ps → Shaped back L false (w .count) ps
-unfolding pieces-of
 pieces-shaped L b a w back true ps e =
     let u = unless-ok (not (eqb (w .address % 4) 0)) _ a _ ps e in
     words-shaped back L b a (w .count) false (w .address) (w .count) ps (omega arith) (u .1)
@@ -94,7 +100,6 @@ pub record ReadUp (F : Format) (L : ℕ) (b : Reader) (a : ℕ) (command : Optio
   pub is : cell-at command a (ccw-at F b a) pieces ≡ t
 
 pub read-up-ok : (F : Format) (L : ℕ) (b : Reader) (a : ℕ) (command : Option ℕ) (t : Cell) → read-up F L b a command ≡ Ok t → ReadUp F L b a command t
-unfolding read-up
 read-up-ok F L b a command t e =
     let w : Ccw = ccw-at F b a in
     let u4 = unless-ok (none-in-force command && is-invalid (class-in F (w .code))) _ a _ t e in
@@ -110,7 +115,6 @@ aligned-ok L a x rest e =
     (ltb-false L (a + 8) (u2 .0), u2 .1)
 
 transfer-ok : (F : Format) (b : Reader) (a x : ℕ) (barred : Bool) (rest : Result ℕ Broken) → transfer-rules F b a barred rest ≡ Ok x → rest ≡ Ok x
-unfolding transfer-rules
 transfer-ok Zero b a x barred rest e = unless-ok barred _ a rest x e .1
 transfer-ok One b a x barred rest e =
     let w : Ccw = ccw-at One b a in
@@ -120,7 +124,6 @@ transfer-ok One b a x barred rest e =
 
 -- the CCW found lies inside storage
 target-inside : (F : Format) (L : ℕ) (b : Reader) (a x : ℕ) → target F L b a ≡ Ok x → x + 8 ≤ L
-unfolding target
 target-inside F L b a x e =
     let u = aligned-ok L a x _ e in
     go (transfer-at F b a) (u .0) (u .1)
@@ -130,7 +133,6 @@ target-inside F L b a x e =
     go false h f = let z : a ≡ x = cc in omega arith
 
 found-inside : (F : Format) (L : ℕ) (b : Reader) (a x : ℕ) (first : Bool) → found F L b a first ≡ Ok x → x + 8 ≤ L
-unfolding found
 found-inside F L b a x first e =
     let u = aligned-ok L a x _ e in
     go (transfer-at F b a) (u .0) (u .1)
@@ -140,18 +142,17 @@ found-inside F L b a x first e =
     go false h f = let z : a ≡ x = cc in omega arith
 
 pub read-sound : (F : Format) (L : ℕ) (b : Reader) (a : ℕ) (command : Option ℕ) (t : Cell) → a + 8 ≤ L → read-up F L b a command ≡ Ok t → Sound L t
-unfolding cell-at
 read-sound F L b a command t h e =
     let r = read-up-ok F L b a command t e in
     let w : Ccw = ccw-at F b a in
     let base : Sound L (cell-at command a w (r .pieces)) = record {
       inside = h;
       some = omega (arith, eqb-false (w .count) 0 (r .count));
-      shaped = pieces-shaped L b a w (backward (in-force command (w .code))) (w .flags .ida) (r .pieces) (r .from) } in
+      shaped = pieces-shaped L b a w (backward (in-force command (w .code))) (w .flags .ida) (r .pieces) (r .from);
+    } in
     subst (Sound L) (r .is) base
 
 pub taken-sound : (F : Format) (bytes : List ℕ) (place : Place) (t : Cell) → taken-up F bytes place ≡ Ok t → Sound (reach bytes) t
-unfolding taken-up
 taken-sound F bytes place t e =
     let f = bind-ok (found F (reach bytes) (reader bytes) (place .address) (place .first)) _ t e in
     let h = found-inside F (reach bytes) (reader bytes) (place .address) (f .0) (place .first) (f .1) in

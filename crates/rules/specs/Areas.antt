@@ -69,7 +69,7 @@ word-serves back L ccw later at v left =
     unless (later && not (enters back v)) (WordOffBoundary at) ccw r10
 
 -- rules 8 to 10 for the word at `at`
-unfoldable pub one-word : Bool → ℕ → Reader → ℕ → Bool → ℕ → ℕ → Result Piece Broken
+abbrev pub one-word : Bool → ℕ → Reader → ℕ → Bool → ℕ → ℕ → Result Piece Broken
 one-word back L b ccw later at left = unless (ltb L (at + word-size)) (WordOutside at) ccw (word-serves back L ccw later at (word-at b at) left)
 
 -- the pieces of a list of words
@@ -78,7 +78,7 @@ by-words back L b ccw rounds later at zero = Ok []
 by-words back L b ccw zero later at (suc left) = Ok []
 by-words back L b ccw (suc rounds) later at (suc left) =
     bind (one-word back L b ccw later at (suc left)) (λ p.
-      bind (by-words back L b ccw rounds true (at + word-size) (suc left - p .size)) (λ ps. Ok (p ∷ ps)))
+    bind (by-words back L b ccw rounds true (at + word-size) (suc left - p .size)) (λ ps. Ok (p ∷ ps)))
 
 -- the n addresses from v on
 unfoldable pub run : Bool → ℕ → ℕ → List ℕ

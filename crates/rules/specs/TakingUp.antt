@@ -82,12 +82,12 @@ aligned L a rest =
     unless (not (eqb (a % 8) 0)) (Misaligned a) a r2
 
 -- whether a code with the low half of a TIC stands at a
-unfoldable pub transfer-at : Format → Reader → ℕ → Bool
+abbrev pub transfer-at : Format → Reader → ℕ → Bool
 transfer-at F b a = is-transfer (class-of (ccw-at F b a .code))
 
 -- what is asked of such a code where `barred` says that no TIC may stand: rule 3, and in format 1 that it
 -- is 08 (rule 4) and has neither a flag nor a count (rule 5)
-unfoldable pub transfer-rules : Format → Reader → ℕ → Bool → Result ℕ Broken → Result ℕ Broken
+abbrev pub transfer-rules : Format → Reader → ℕ → Bool → Result ℕ Broken → Result ℕ Broken
 transfer-rules Zero b a barred rest = unless barred (TransferMisplaced a) a rest
 transfer-rules One b a barred rest =
     let w = ccw-at One b a in
@@ -96,11 +96,11 @@ transfer-rules One b a barred rest =
     unless (not (eqb (w .code) 8)) (CodeInvalid a) a r3
 
 -- rules 1 to 3 at the target of a TIC
-unfoldable pub target : Format → ℕ → Reader → ℕ → Result ℕ Broken
+abbrev pub target : Format → ℕ → Reader → ℕ → Result ℕ Broken
 target F L b a = aligned L a (cond (transfer-at F b a) (transfer-rules F b a true (Ok a)) (Ok a))
 
 -- rules 1 to 3: the address of the CCW, through at most one TIC
-unfoldable pub found : Format → ℕ → Reader → ℕ → Bool → Result ℕ Broken
+abbrev pub found : Format → ℕ → Reader → ℕ → Bool → Result ℕ Broken
 found F L b a first =
     let through = target F L b (ccw-at F b a .address) in
     aligned L a (cond (transfer-at F b a) (transfer-rules F b a first through) (Ok a))
@@ -118,17 +118,17 @@ abbrev pub refused-flag : Flags → Bool
 refused-flag f = f .pci || f .suspend || f .mida
 
 -- rules 7 to 10: the pieces of the area
-unfoldable pub pieces-of : ℕ → Reader → ℕ → Ccw → Bool → Bool → Result (List Piece) Broken
+abbrev pub pieces-of : ℕ → Reader → ℕ → Ccw → Bool → Bool → Result (List Piece) Broken
 pieces-of L b a w back true =
     unless (not (eqb (w .address % 4) 0)) (ListMisaligned a) a (by-words back L b a (w .count) false (w .address) (w .count))
 pieces-of L b a w back false =
     unless (outside back L (w .address) (w .count)) (AreaOutside (first-outside back L (w .address))) a (Ok (cut back (w .count) (w .address) (w .count)))
 
-unfoldable pub cell-at : Option ℕ → ℕ → Ccw → List Piece → Cell
+abbrev pub cell-at : Option ℕ → ℕ → Ccw → List Piece → Cell
 cell-at command a w ps = record { ccw = record { value = w; address = a }; before = command; code = in-force command (w .code); pieces = ps }
 
 -- rules 4 to 10 for the CCW at a
-unfoldable pub read-up : Format → ℕ → Reader → ℕ → Option ℕ → Result Cell Broken
+abbrev pub read-up : Format → ℕ → Reader → ℕ → Option ℕ → Result Cell Broken
 read-up F L b a command =
     let w = ccw-at F b a in
     let ps = pieces-of L b a w (backward (in-force command (w .code))) (w .flags .ida) in
@@ -138,7 +138,7 @@ read-up F L b a command =
     unless (none-in-force command && is-invalid (class-in F (w .code))) (CodeInvalid a) a r5
 
 -- all ten
-unfoldable pub taken-up : Format → List ℕ → Place → Result Cell Broken
+abbrev pub taken-up : Format → List ℕ → Place → Result Cell Broken
 taken-up F bytes place =
     bind (found F (reach bytes) (reader bytes) (place .address) (place .first))
-      (λ a. read-up F (reach bytes) (reader bytes) a (place .command))
+    (λ a. read-up F (reach bytes) (reader bytes) a (place .command))

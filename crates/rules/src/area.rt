@@ -18,12 +18,16 @@ use format::refusal::Refusal;
 
 // The bytes of a block, and of an indirect word.
 const BLOCK: usize = 2048;
+
 const WORD: u32 = 4;
 
 fn no_pieces() -> Pieces
     ensures { λ r. ⌜ r .len ≡ 0 ⌝ }
 {
-    Pieces { items: [Piece { first: 0, size: 0 }; 33], len: 0 }
+    Pieces {
+        items: [Piece { first: 0, size: 0 }; 33],
+        len: 0,
+    }
 }
 
 fn push(pieces: &mut Pieces, piece: Piece)
@@ -39,20 +43,32 @@ fn push(pieces: &mut Pieces, piece: Piece)
 fn served(backward: bool, first: usize) -> usize
     ensures { λ r. ⌜ r ≡ serves backward first ⌝ }
 {
-    if backward { first % BLOCK + 1 } else { BLOCK - first % BLOCK }
+    if backward {
+        first % BLOCK + 1
+    } else {
+        BLOCK - first % BLOCK
+    }
 }
 
 fn enters_block(backward: bool, first: usize) -> bool
     ensures { λ r. ⌜ r ≡ enters backward first ⌝ }
 {
-    if backward { first % BLOCK == BLOCK - 1 } else { first % BLOCK == 0 }
+    if backward {
+        first % BLOCK == BLOCK - 1
+    } else {
+        first % BLOCK == 0
+    }
 }
 
 fn step_on(backward: bool, first: usize, size: usize) -> usize
     requires { ⌜ first ≤ 2 ^ 33 ⌝ ∗ ⌜ size ≤ 2 ^ 16 ⌝ }
     ensures { λ r. ⌜ r ≡ onward backward first size ⌝ }
 {
-    if backward { first.saturating_sub(size) } else { first + size }
+    if backward {
+        first.saturating_sub(size)
+    } else {
+        first + size
+    }
 }
 
 // Whether some of the bytes lie outside storage.
@@ -61,7 +77,11 @@ fn is_outside(backward: bool, limit: usize, first: u32, size: usize) -> bool
     ensures { λ r. ⌜ r ≡ outside backward limit first size ⌝ }
 {
     let at = first as usize;
-    if backward { at >= limit || at + 1 < size } else { limit < at + size }
+    if backward {
+        at >= limit || at + 1 < size
+    } else {
+        limit < at + size
+    }
 }
 
 // The first byte outside, as a refusal names it.
@@ -96,13 +116,23 @@ fn cut_pieces(backward: bool, first: u32, count: u16) -> Pieces
 }
 
 // Rules 9 and 10: the piece that an indirect word serves.
-fn served_piece(limit: usize, backward: bool, ccw: u32, later: bool, word: Placed<u32>, left: usize) -> Result<Piece, Broken>
+fn served_piece(
+    limit: usize,
+    backward: bool,
+    ccw: u32,
+    later: bool,
+    word: Placed<u32>,
+    left: usize,
+) -> Result<Piece, Broken>
     requires { ⌜ limit ≤ 2 ^ 31 ⌝ ∗ ⌜ left ≤ 2 ^ 16 ⌝ }
     ensures { λ r. ⌜ r ≡ word-serves backward limit ccw later (word .address) (word .value) left ⌝ }
 {
     let first = word.value as usize;
     if later && !enters_block(backward, first) {
-        return Err(Broken { refusal: Refusal::WordOffBoundary(word.address), ccw });
+        return Err(Broken {
+            refusal: Refusal::WordOffBoundary(word.address),
+            ccw,
+        });
     }
     let size = left.min(served(backward, first));
     if is_outside(backward, limit, word.value, size) {
@@ -113,19 +143,50 @@ fn served_piece(limit: usize, backward: bool, ccw: u32, later: bool, word: Place
 }
 
 // Rules 8 to 10 for one indirect word.
-fn word_piece<S: Storage>(storage: &S, backward: bool, ccw: u32, later: bool, at: u32, left: usize) -> Result<Piece, Broken>
-    requires { ⌜ 0 < left ⌝ ∗ ⌜ left ≤ 2 ^ 16 ⌝ }
-    ensures is { λ r. ⌜ r ≡ one-word backward (reach (bytes (now (storage .entry)))) (reader (bytes (now (storage .entry)))) ccw later at left ⌝ }
-    ensures size { λ r. ⌜ made r (λ p. (0 < p .size) × (p .size ≤ left) × (later ≡ true → p .size ≡ min left 2048) × (at + 4 ≤ reach (bytes (now (storage .entry))))) ⌝ }
+fn check_word<S: Storage>(
+    storage: &S,
+    backward: bool,
+    ccw: u32,
+    later: bool,
+    at: u32,
+    left: usize,
+) -> Result<Piece, Broken>
+    requires { ⌜ left ≤ 2 ^ 16 ⌝ }
+    ensures { λ r. ⌜ r ≡ one-word backward (reach (bytes (now (storage .entry)))) (reader (bytes (now (storage .entry)))) ccw later at left ⌝ }
 {
     let limit = addressable(storage);
     if limit < at as usize + WORD as usize {
-        return Err(Broken { refusal: Refusal::WordOutside(at), ccw });
+        return Err(Broken {
+            refusal: Refusal::WordOutside(at),
+            ccw,
+        });
     }
     served_piece(limit, backward, ccw, later, read_word(storage, at), left)
 }
 
-fn word_pieces<S: Storage>(storage: &S, backward: bool, ccw: u32, list: u32, count: u16) -> Result<Pieces, Broken>
+// The same, with what is known of the piece.
+fn word_piece<S: Storage>(
+    storage: &S,
+    backward: bool,
+    ccw: u32,
+    later: bool,
+    at: u32,
+    left: usize,
+) -> Result<Piece, Broken>
+    requires { ⌜ 0 < left ⌝ ∗ ⌜ left ≤ 2 ^ 16 ⌝ }
+    ensures is { λ r. ⌜ r ≡ one-word backward (reach (bytes (now (storage .entry)))) (reader (bytes (now (storage .entry)))) ccw later at left ⌝ }
+    ensures size { λ r. ⌜ made r (λ p. (0 < p .size) × (p .size ≤ left) × (later ≡ true → p .size ≡ min left 2048) × (at + 4 ≤ reach (bytes (now (storage .entry))))) ⌝ }
+{
+    check_word(storage, backward, ccw, later, at, left)
+}
+
+fn word_pieces<S: Storage>(
+    storage: &S,
+    backward: bool,
+    ccw: u32,
+    list: u32,
+    count: u16,
+) -> Result<Pieces, Broken>
     ensures { λ r. ⌜ answered listed r ≡ by-words backward (reach (bytes (now (storage .entry)))) (reader (bytes (now (storage .entry)))) ccw count false list count ⌝ }
 {
     let mut pieces = no_pieces();
@@ -143,21 +204,31 @@ fn word_pieces<S: Storage>(storage: &S, backward: bool, ccw: u32, list: u32, cou
 }
 
 // Rules 7 to 10: the pieces of the area of a CCW.
-pub(crate) fn area_pieces<S: Storage>(storage: &S, ccw: Placed<Ccw>, backward: bool) -> Result<Pieces, Broken>
+pub(crate) fn area_pieces<S: Storage>(
+    storage: &S,
+    ccw: Placed<Ccw>,
+    backward: bool,
+) -> Result<Pieces, Broken>
     ensures { λ r. ⌜ answered listed r ≡ pieces-of (reach (bytes (now (storage .entry)))) (reader (bytes (now (storage .entry)))) (ccw .address) (ccw .value) backward (ccw .value .flags .ida) ⌝ }
 {
     let address = ccw.value.address;
     let count = ccw.value.count;
     if ccw.value.flags.ida {
         if address % 4 != 0 {
-            return Err(Broken { refusal: Refusal::ListMisaligned(ccw.address), ccw: ccw.address });
+            return Err(Broken {
+                refusal: Refusal::ListMisaligned(ccw.address),
+                ccw: ccw.address,
+            });
         }
         return word_pieces(storage, backward, ccw.address, address, count);
     }
     let limit = addressable(storage);
     if is_outside(backward, limit, address, count as usize) {
         let refusal = Refusal::AreaOutside(outside_at(backward, limit, address));
-        return Err(Broken { refusal, ccw: ccw.address });
+        return Err(Broken {
+            refusal,
+            ccw: ccw.address,
+        });
     }
     Ok(cut_pieces(backward, address, count))
 }

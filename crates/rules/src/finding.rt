@@ -19,10 +19,16 @@ fn check_address(limit: usize, address: u32) -> Result<(), Broken>
     ensures { λ r. ⌜ ((rest : Outcome ℕ Fault) → past r rest ≡ aligned limit address rest) ⌝ }
 {
     if address % 8 != 0 {
-        return Err(Broken { refusal: Refusal::Misaligned(address), ccw: address });
+        return Err(Broken {
+            refusal: Refusal::Misaligned(address),
+            ccw: address,
+        });
     }
     if limit < address as usize + 8 {
-        return Err(Broken { refusal: Refusal::CcwOutside(address), ccw: address });
+        return Err(Broken {
+            refusal: Refusal::CcwOutside(address),
+            ccw: address,
+        });
     }
     Ok(())
 }
@@ -38,26 +44,43 @@ fn transfers<S: Storage>(storage: &S, format: Format, address: u32) -> bool
 }
 
 // Rule 3, and in format 1 that a TIC is 08 and has neither a flag nor a count.
-fn check_transfer<S: Storage>(storage: &S, format: Format, address: u32, barred: bool) -> Result<(), Broken>
+fn check_transfer<S: Storage>(
+    storage: &S,
+    format: Format,
+    address: u32,
+    barred: bool,
+) -> Result<(), Broken>
     ensures { λ r. ⌜ ((rest : Outcome ℕ Fault) → past r rest ≡ transfer-rules format (reader (bytes (now (storage .entry)))) address barred rest) ⌝ }
 {
     match format {
         Format::Zero => {
             if barred {
-                return Err(Broken { refusal: Refusal::TransferMisplaced(address), ccw: address });
+                return Err(Broken {
+                    refusal: Refusal::TransferMisplaced(address),
+                    ccw: address,
+                });
             }
             Ok(())
         }
         Format::One => {
             let ccw = read_ccw(storage, Format::One, address).value;
             if ccw.code != 8 {
-                return Err(Broken { refusal: Refusal::CodeInvalid(address), ccw: address });
+                return Err(Broken {
+                    refusal: Refusal::CodeInvalid(address),
+                    ccw: address,
+                });
             }
             if barred {
-                return Err(Broken { refusal: Refusal::TransferMisplaced(address), ccw: address });
+                return Err(Broken {
+                    refusal: Refusal::TransferMisplaced(address),
+                    ccw: address,
+                });
             }
             if ccw.flags.any() || ccw.count != 0 {
-                return Err(Broken { refusal: Refusal::FlagRefused(address), ccw: address });
+                return Err(Broken {
+                    refusal: Refusal::FlagRefused(address),
+                    ccw: address,
+                });
             }
             Ok(())
         }
@@ -85,5 +108,9 @@ pub fn find_ccw<S: Storage>(storage: &S, format: Format, place: Place) -> Result
         return Ok(address);
     }
     check_transfer(storage, format, address, place.first)?;
-    reach_target(storage, format, read_ccw(storage, format, address).value.address)
+    reach_target(
+        storage,
+        format,
+        read_ccw(storage, format, address).value.address,
+    )
 }

@@ -1,7 +1,7 @@
+use super::pieces::Pieces;
 use format::ccw::Ccw;
 use format::placed::Placed;
 use format::refusal::Refusal;
-use super::pieces::Pieces;
 
 // Where a program stands: a CCW address, whether none was run before it, and the code of the command
 // in force, if one is.

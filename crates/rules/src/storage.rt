@@ -36,7 +36,11 @@ pub impl<'a> Storage for Plain<'a> as PlainStorage {
     }
 
     fn byte(&self, address: usize) -> u8 {
-        if address < self.storage.len() { self.storage[address] } else { 0 }
+        if address < self.storage.len() {
+            self.storage[address]
+        } else {
+            0
+        }
     }
 }
 
@@ -75,6 +79,11 @@ pub(crate) fn read_word<S: Storage>(storage: &S, address: u32) -> Placed<u32>
     ensures place { λ r. ⌜ r .address ≡ address ⌝ }
 {
     let a = address as usize;
-    let value = word([storage.byte(a), storage.byte(a + 1), storage.byte(a + 2), storage.byte(a + 3)]);
+    let value = word([
+        storage.byte(a),
+        storage.byte(a + 1),
+        storage.byte(a + 2),
+        storage.byte(a + 3),
+    ]);
     Placed { value, address }
 }

@@ -33,22 +33,48 @@ fn has_refused_flag(flags: Flags) -> bool
 }
 
 // Rules 4 to 10: the CCW at an address, with the command in force before it.
-pub fn read_up<S: Storage>(storage: &S, format: Format, address: u32, command: Option<u8>) -> Result<Taken, Broken>
+pub fn read_up<S: Storage>(
+    storage: &S,
+    format: Format,
+    address: u32,
+    command: Option<u8>,
+) -> Result<Taken, Broken>
     ensures { λ r. ⌜ answered cell-of r ≡ read-up format (reach (bytes (now (storage .entry)))) (reader (bytes (now (storage .entry)))) address command ⌝ }
 {
     let ccw = read_ccw(storage, format, address);
     if command.is_none() && !is_valid(format, ccw.value.code) {
-        return Err(Broken { refusal: Refusal::CodeInvalid(address), ccw: address });
+        return Err(Broken {
+            refusal: Refusal::CodeInvalid(address),
+            ccw: address,
+        });
     }
     if has_refused_flag(ccw.value.flags) {
-        return Err(Broken { refusal: Refusal::FlagRefused(address), ccw: address });
+        return Err(Broken {
+            refusal: Refusal::FlagRefused(address),
+            ccw: address,
+        });
     }
     if ccw.value.count == 0 {
-        return Err(Broken { refusal: Refusal::CountZero(address), ccw: address });
+        return Err(Broken {
+            refusal: Refusal::CountZero(address),
+            ccw: address,
+        });
     }
     let code = command.unwrap_or(ccw.value.code);
     let pieces = area_pieces(storage, ccw, Class::of(code).backward())?;
-    Ok(Taken { ccw, before: command, code, pieces })
+    Ok(Taken {
+        ccw,
+        before: command,
+        code,
+        pieces,
+    })
+}
+
+fn find_and_read<S: Storage>(storage: &S, format: Format, place: Place) -> Result<Taken, Broken>
+    ensures { λ r. ⌜ answered cell-of r ≡ taken-up format (bytes (now (storage .entry))) place ⌝ }
+{
+    let address = find_ccw(storage, format, place)?;
+    read_up(storage, format, address, place.command)
 }
 
 // Rules 1 to 10.
@@ -56,6 +82,5 @@ pub fn take_up<S: Storage>(storage: &S, format: Format, place: Place) -> Result<
     ensures is { λ r. ⌜ answered cell-of r ≡ taken-up format (bytes (now (storage .entry))) place ⌝ }
     ensures sound { λ r. ⌜ made r (λ t. Sound (reach (bytes (now (storage .entry)))) (cell-of t)) ⌝ }
 {
-    let address = find_ccw(storage, format, place)?;
-    read_up(storage, format, address, place.command)
+    find_and_read(storage, format, place)
 }

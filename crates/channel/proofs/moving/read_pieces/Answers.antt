@@ -50,7 +50,7 @@ loop-i-again g c =
     let done = c .read-piece-moved .ensures in (
       omega (arith, count-on (d .laws) (c .args .backward) p rest s u (c .read-piece-moved .result) (done .became) (done .moved), inv .0, ap sizes e),
       bytes-on (d .laws) (c .args .backward) p rest (c .loop-i .storage) (c .read-piece-moved .last .storage) s u (done .bytes) (done .became)
-      ∙ ap (λ x. lay (area (c .args .backward) x) (due (m .pending s)) (c .loop-i .storage)) (sym e) ∙ inv .1,
+          ∙ ap (λ x. lay (area (c .args .backward) x) (due (m .pending s)) (c .loop-i .storage)) (sym e) ∙ inv .1,
       state-on (d .laws) (c .args .backward) p rest s u (done .became) ∙ ap (λ x. m .given (sizes x) s) (sym e) ∙ inv .2,
     )
 

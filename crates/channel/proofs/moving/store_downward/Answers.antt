@@ -5,7 +5,6 @@ use Prim.Native.Nat.{_+_, _-_, _<_, _≤_}
 use native.Mathlib.Omega.{arith}
 use lib.ListN.{length, getD, drop, set}
 use Rattle.std.proofs.shelf.Lists.{drop-more, drop-all}
-use Rattle.channel.proofs.Laying.{lay-none}
 use Rattle.channel.specs.Moves.{lay}
 use Rattle.rules.specs.Areas.{run}
 use Rattle.channel.proofs.Laying.{back-step}
@@ -35,5 +34,5 @@ returns c =
     let j = c .loop-i .i in
     let bs = c .args .bytes .now in
     let end : length bs ≤ j = omega arith in
-    sym (ap (λ y. lay (run true (v - j) (n - j)) y (c .loop-i .storage)) (drop-all j bs end) ∙ lay-none (run true (v - j) (n - j)) (c .loop-i .storage))
+    sym (ap (λ y. lay (run true (v - j) (n - j)) y (c .loop-i .storage)) (drop-all j bs end))
     ∙ c .loop-i .inv

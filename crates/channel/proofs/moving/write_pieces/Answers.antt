@@ -6,7 +6,6 @@ use native.Mathlib.Omega.{arith}
 use lib.ListN.{length, take, drop, getD, length-take}
 use borrow.Author.Needs.{needs}
 use Rattle.std.proofs.shelf.Lists.{drop-all}
-
 use Rattle.format.specs.Bytes.{reader}
 use Rattle.rules.specs.Areas.{area}
 use Rattle.rules.specs.Areas.{sizes}

@@ -21,10 +21,10 @@ loop-left-again c =
     let room-on : (0 < left - n) → (serves k (c .step-on-at .result) ≡ 2048) × (left - n + 2048 * (c .loop-left .pieces .len + 1) < c .args .count + 2048) =
     rw on (cutting k at left (c .loop-left .pieces .len) (c .args .count) n size (inv .1) (inv .4) (inv .3)) in (
       ap (λ x. listed (c .push .last .pieces) ++ cut k (left - n) x (left - n)) on
-      ∙ ap (λ x. x ++ cut k (left - n) (onward k at n) (left - n)) (c .push .ensures .list)
-      ∙ append-assoc (listed (c .loop-left .pieces)) _ _
-      ∙ ap (λ x. listed (c .loop-left .pieces) ++ x) (sym (cut-step k at left n some size))
-      ∙ inv .0,
+          ∙ ap (λ x. x ++ cut k (left - n) (onward k at n) (left - n)) (c .push .ensures .list)
+          ∙ append-assoc (listed (c .loop-left .pieces)) _ _
+          ∙ ap (λ x. listed (c .loop-left .pieces) ++ x) (sym (cut-step k at left n some size))
+          ∙ inv .0,
       omega arith,
       search needs,
       search needs,

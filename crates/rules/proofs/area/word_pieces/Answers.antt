@@ -30,8 +30,8 @@ loop-left-again g c =
     let some : 0 < left = omega arith in
     let size = c .in-Continue-piece .ensures tt .size in (
       ap (λ x. onto x (by-words (c .args .backward) (reach st) (reader st) (c .args .ccw) (left - p .size) true (c .loop-left .at + 4) (left - p .size))) (c .push .ensures .list)
-      ∙ sym (word-on (c .args .backward) (reach st) (reader st) (c .args .ccw) (listed (c .loop-left .pieces)) (c .loop-left .later) (c .loop-left .at) left p some (c .in-Continue-piece .ensures tt .is))
-      ∙ inv .0,
+          ∙ sym (word-on (c .args .backward) (reach st) (reader st) (c .args .ccw) (listed (c .loop-left .pieces)) (c .loop-left .later) (c .loop-left .at) left p some (c .in-Continue-piece .ensures tt .is))
+          ∙ inv .0,
       omega arith,
       λ e. let z : _≡_ {A = ℕ} 0 1 = cc in absurd (omega arith),
       λ e more. rw (c .push .ensures .len) (worded (c .loop-left .later) left (p .size) (c .loop-left .pieces .len) (c .args .count) (inv .2) (inv .3) (inv .1) (size .0) (size .1) (size .2) more),

@@ -29,9 +29,11 @@ loop-self-again g c =
     let rest = advanced m F (limit - (count + 1)) after in
     let same : advanced m F (limit - count) here ≡ (suc (rest .0), rest .1) =
     more ∙ ap (λ j. (suc (advanced m F j (stepped m F here) .0), advanced m F j (stepped m F here) .1)) one ∙ ap (λ (w : World m). (suc (advanced m F (limit - (count + 1)) w .0), advanced m F (limit - (count + 1)) w .1)) (sym e) in
-    let shift : count + 1 + rest .0 ≡ count + suc (rest .0) = omega arith in
-    (c .step .ensures .format ∙ inv .0, omega arith,
-     ap (λ j. (j, rest .1)) shift ∙ ap (λ (r : ℕ × World m). (count + r .0, r .1)) (sym same) ∙ inv .2)
+    let shift : count + 1 + rest .0 ≡ count + suc (rest .0) = omega arith in (
+      c .step .ensures .format ∙ inv .0,
+      omega arith,
+      ap (λ j. (j, rest .1)) shift ∙ ap (λ (r : ℕ × World m). (count + r .0, r .1)) (sym same) ∙ inv .2,
+    )
 
 pub returns : need.returns
 returns g c =

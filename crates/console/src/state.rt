@@ -1,5 +1,6 @@
 ghost use Prim.Native.Nat.{_≤_};
 ghost use Rattle.console.specs.Handing.{handed, to-hand};
+use unit::state::Unit;
 
 pub mod access;
 pub mod commands;
@@ -16,19 +17,20 @@ enum Phase {
     Idle,
     Printing,
     ReadingLine(usize),
-    Sensing(usize),
 }
 
-// The bytes of `paper` past `printed`, and of `line` past `line_size`, do not count.
+// What is a console's own. The bytes of `paper` past `printed`, and of `line` past `line_size`, do not count.
 #[derive(Drop)]
-pub struct Console {
+pub struct ConsoleModel {
     paper: [u8; PAPER],
     printed: usize,
     line: [u8; LINE],
     line_size: usize,
-    sense: u8,
     phase: Phase,
     ghost paper_fits: { printed ≤ 2048 },
     ghost line_fits: { «line_size» ≤ 256 },
     ghost within: { handed phase ≤ to-hand phase «line_size» },
 }
+
+// The whole device.
+pub type Console = Unit<ConsoleModel>;

@@ -13,8 +13,7 @@ use Rattle.format.specs.declared.status.StatusWord.{StatusWord}
 use Rattle.format.specs.StatusWords.{status-bytes}
 use Rattle.rules.specs.TakingUp.{taken-up}
 use Rattle.channel.specs.Steps.{World, status-of, started, advanced, word-of}
-use Rattle.console.specs.ConsoleState.{at-first}
-use Rattle.console.specs.ConsoleMachine.{console-machine}
+use Rattle.console.specs.ConsoleMachine.{at-first, console-machine}
 
 -- five bytes wait on the console
 abbrev pub five : List ℕ

@@ -1,8 +1,9 @@
 ghost use mathlib.Core.Path.{_≡_};
 ghost use Rattle.figures.specs.Cases.{read-program, read-answer, Worked-cases};
 use channel::program::Program;
-use console::state::Console;
-use console::state::commands::ConsoleDevice;
+use console::state::access::new_console;
+use console::state::commands::ConsoleCommands;
+use unit::state::commands::UnitDevice;
 use format::ccw::Format;
 use format::status::StatusWord;
 
@@ -22,7 +23,7 @@ fn run_read(count: u16) -> Option<StatusWord>
     ensures { λ r. ⌜ r ≡ read-answer count ⌝ }
 {
     let mut storage = storage_with(count);
-    let Some(mut console) = Console::new(b"HELLO") else {
+    let Some(mut console) = new_console(b"HELLO") else {
         return None;
     };
     let mut program = Program::start(Format::Zero, 0x100);

@@ -1,6 +1,7 @@
 use super::ebcdic::encode;
 use super::watched::Watched;
 use console::state::Console;
+use console::state::access::new_console;
 use std::alloc::AllocError;
 use std::alloc::Global;
 use std::error::AnyError;
@@ -81,7 +82,7 @@ impl Job {
         for character in self.line.as_bytes() {
             line.push(encode(*character))?;
         }
-        match Console::new(&line) {
+        match new_console(&line) {
             Some(console) => Ok(Watched::new(console)),
             None => Err("the line is too long".into()),
         }

@@ -9,6 +9,7 @@ use super::names::SUBCHANNEL_STATUS;
 use channel::program::Program;
 use console::state::Console;
 use std::io;
+use console::state::commands::ConsoleCommands;
 
 // The status word in one line.
 pub fn show_word(rt: &LibcRuntime, program: &Program) -> io::Result<()> {
@@ -37,8 +38,8 @@ pub fn show_status(rt: &LibcRuntime, program: &Program) -> io::Result<()> {
 }
 
 pub fn show_console(rt: &LibcRuntime, console: &Console) -> io::Result<()> {
-    let paper = console.paper();
-    let line = console.line();
+    let paper = console.model().paper();
+    let line = console.model().line();
     println!(rt, "Paper, length {}: \"{}\"", paper.len(), Text(paper))?;
     println!(
         rt,

@@ -4,14 +4,14 @@ use mathlib.Core.Logic.{inl, inr}
 use native.Mathlib.Omega.{arith}
 use lib.ListN.{length}
 use lib.Seq.{take-nil}
-use Rattle.console.specs.Meaning.{meaning}
-use Rattle.console.proofs.state.commands.ConsoleDevice.give.Needs as need
+use Rattle.console.specs.Meaning.{model-meaning}
+use Rattle.console.proofs.state.commands.ConsoleCommands.give.Needs as need
 
 pub returns-in-Idle : need.returns-in-Idle
 returns-in-Idle c =
     let buffer = c .args .buffer .now in
     let nothing = sym (ap (λ x. x ++ buffer) (take-nil (length buffer))) in
-    let stays = refl {a = meaning (c .args .self .now)} in
+    let stays = refl {a = model-meaning (c .args .self .now)} in
     elim (c .in-Idle .is) [
       | inl e ↦ simp e (record { count = omega arith; bytes = nothing; became = simp e at stays })
       | inr e ↦ simp e (record { count = omega arith; bytes = nothing; became = simp e at stays })

@@ -4,8 +4,8 @@ use Prim.Native.Nat.{_-_, min}
 use native.Mathlib.Omega.{arith}
 use lib.ListN.{length, take, drop, length-drop}
 use Rattle.std.proofs.shelf.Parts.{between-to-end}
-use Rattle.console.proofs.Parts.{left-after}
-use Rattle.console.proofs.copying.hand_out.Needs as need
+use Rattle.unit.proofs.Parts.{left-after}
+use Rattle.unit.proofs.copying.copy_behind.Needs as need
 
 pub returns : need.returns
 returns c =

@@ -3,8 +3,8 @@ use mathlib.Core.List.{_++_}
 use Prim.Native.Nat.{min}
 use lib.ListN.{length, take, drop}
 use borrow.Author.Needs.{needs}
-use Rattle.console.proofs.Parts.{take-min}
-use Rattle.console.proofs.copying.copy_first.Needs as need
+use Rattle.unit.proofs.Parts.{take-min}
+use Rattle.unit.proofs.copying.copy_first.Needs as need
 
 pub returns : need.returns
 returns c =

@@ -2,8 +2,8 @@ use mathlib.Core.Path.{_≡_}
 use Prim.Native.Nat.{_-_}
 use native.Mathlib.Omega.{arith}
 use lib.ListN.{length, take, drop, length-take, length-drop}
-use Rattle.console.proofs.Parts.{appended}
-use Rattle.console.proofs.copying.append.Needs as need
+use Rattle.unit.proofs.Parts.{appended}
+use Rattle.unit.proofs.copying.append_within.Needs as need
 
 pub returns : need.returns
 returns c =

@@ -1,4 +1,5 @@
 pub mod Advancing
+pub mod Changing
 pub mod Laying
 pub mod Directions
 pub mod Tables

@@ -4,6 +4,7 @@ use mathlib.Core.Path.{_≡_}
 use mathlib.Core.List.{List, [], _∷_}
 use mathlib.Core.Bool.{Bool, true, false, cond}
 use Prim.Native.Nat.{ℕ, zero, suc, _+_, _%_, _^_, _<_, _≤_}
+use lib.ListN.{getD}
 use Rattle.std.specs.declared.option.Option.{Option}
 use Rattle.std.specs.declared.option.Option.the-variants.{None, Some}
 use Rattle.std.specs.declared.result.Result.{Result}
@@ -68,6 +69,20 @@ stepped m F w = stepped-from m F (w .storage) (w .state) (w .run)
 abbrev pub is-ended : Run → Bool
 is-ended (Running place owed) = false
 is-ended (Ended status) = true
+
+-- an address that is none of these
+abbrev pub Apart : ℕ → List ℕ → Type 0
+Apart a [] = Unit {0}
+Apart a (x ∷ xs) = (x ≡ a → ⊥) × Apart a xs
+
+-- what a step may change of storage: with a broken rule nothing, else bytes of the area of the CCW taken up
+abbrev pub Changed-for : Result Cell Broken → List ℕ → List ℕ → Type 0
+Changed-for (Err e) before after = after ≡ before
+Changed-for (Ok t) before after = (a : ℕ) → Apart a (addresses-of t) → getD after a 0 ≡ getD before a 0
+
+abbrev pub Changes-only-area : Format → Run → List ℕ → List ℕ → Type 0
+Changes-only-area F (Running place owed) before after = Changed-for (taken-up F before place) before after
+Changes-only-area F (Ended status) before after = after ≡ before
 
 -- n steps
 unfoldable pub steps : (m : Machine) → Format → ℕ → World m → World m

@@ -4,7 +4,7 @@ ghost use mathlib.Core.Bool.{not, _&&_};
 ghost use lib.Dec.{ltb};
 ghost use Prim.Native.Nat.{ℕ};
 ghost use Rattle.device.specs.Machine.{Machine};
-ghost use Rattle.channel.specs.Steps.{World, started, stepped, advanced, is-ended, Counted, halted, word-of};
+ghost use Rattle.channel.specs.Steps.{World, started, stepped, Changes-only-area, advanced, is-ended, Counted, halted, word-of};
 use super::run::Run;
 use super::step::close;
 use super::step::step_run;
@@ -45,6 +45,16 @@ impl Program {
 
     // One CCW. A program that has ended stays as it is.
     pub fn step<D: Device>(&mut self, storage: &mut [u8], device: &mut D)
+        ensures format { λ _. ⌜ now (self .exit) .format ≡ now (self .entry) .format ⌝ }
+        ensures world { λ _. ⌜ _≡_ {A = World machine}
+            (record { storage = now (storage .exit); state = state (now (device .exit)); run = now (self .exit) .run })
+            (stepped machine (now (self .entry) .format) (record { storage = now (storage .entry); state = state (now (device .entry)); run = now (self .entry) .run })) ⌝ }
+        ensures area { λ _. ⌜ Changes-only-area (now (self .entry) .format) (now (self .entry) .run) (now (storage .entry)) (now (storage .exit)) ⌝ }
+    {
+        self.step_once(storage, device);
+    }
+
+    fn step_once<D: Device>(&mut self, storage: &mut [u8], device: &mut D)
         ensures format { λ _. ⌜ now (self .exit) .format ≡ now (self .entry) .format ⌝ }
         ensures world { λ _. ⌜ _≡_ {A = World machine}
             (record { storage = now (storage .exit); state = state (now (device .exit)); run = now (self .exit) .run })

@@ -1,7 +1,7 @@
 use std::fmt;
 
 // The code of an ASCII character; 3F, a substitute, for one that is not in the table.
-pub fn encode(character: u8) -> u8 {
+pub(crate) fn encode(character: u8) -> u8 {
     match character {
         b'A'..=b'I' => 0xC1 + (character - b'A'),
         b'J'..=b'R' => 0xD1 + (character - b'J'),

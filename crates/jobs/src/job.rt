@@ -68,7 +68,7 @@ fn write_entry(storage: &mut [u8], entry: Entry) {
 
 impl Job {
     // The storage before the job runs.
-    pub fn storage(&self, heap: Global) -> Result<Vec<u8>, AllocError> {
+    pub(crate) fn storage(&self, heap: Global) -> Result<Vec<u8>, AllocError> {
         let mut storage = vec![in heap; 0u8; STORAGE]?;
         for entry in self.contents {
             write_entry(&mut storage, *entry);
@@ -77,7 +77,7 @@ impl Job {
     }
 
     // The console with the line of the job.
-    pub fn console(&self, heap: Global) -> Result<Watched<Console>, AnyError> {
+    pub(crate) fn console(&self, heap: Global) -> Result<Watched<Console>, AnyError> {
         let mut line = Vec::new(heap);
         for character in self.line.as_bytes() {
             line.push(encode(*character))?;

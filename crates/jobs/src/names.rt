@@ -49,7 +49,7 @@ pub impl<'a> fmt::Display for Bits<'a> as BitsDisplay {
     }
 }
 
-pub fn class_name(class: Class) -> &'static str {
+pub(crate) fn class_name(class: Class) -> &'static str {
     match class {
         Class::Invalid => "invalid",
         Class::Write => "write",
@@ -62,7 +62,7 @@ pub fn class_name(class: Class) -> &'static str {
 }
 
 // The rule that a refusal stands for, in words.
-pub fn rule_words(refusal: Refusal) -> &'static str {
+pub(crate) fn rule_words(refusal: Refusal) -> &'static str {
     match refusal {
         Refusal::Misaligned(_) => "a CCW address is a multiple of 8",
         Refusal::CcwOutside(_) => "the 8 bytes of a CCW are inside storage",

@@ -12,7 +12,7 @@ use std::io;
 use console::state::commands::ConsoleCommands;
 
 // The status word in one line.
-pub fn show_word(rt: &LibcRuntime, program: &Program) -> io::Result<()> {
+pub(crate) fn show_word(rt: &LibcRuntime, program: &Program) -> io::Result<()> {
     match program.status() {
         Some(word) => println!(
             rt,
@@ -24,7 +24,7 @@ pub fn show_word(rt: &LibcRuntime, program: &Program) -> io::Result<()> {
 }
 
 // The status word and its parts.
-pub fn show_status(rt: &LibcRuntime, program: &Program) -> io::Result<()> {
+pub(crate) fn show_status(rt: &LibcRuntime, program: &Program) -> io::Result<()> {
     show_word(rt, program)?;
     if let Some(word) = program.status() {
         let device = Bits(word.device_status, &DEVICE_STATUS);
@@ -37,7 +37,7 @@ pub fn show_status(rt: &LibcRuntime, program: &Program) -> io::Result<()> {
     Ok(())
 }
 
-pub fn show_console(rt: &LibcRuntime, console: &Console) -> io::Result<()> {
+pub(crate) fn show_console(rt: &LibcRuntime, console: &Console) -> io::Result<()> {
     let paper = console.model().paper();
     let line = console.model().line();
     println!(rt, "Paper, length {}: \"{}\"", paper.len(), Text(paper))?;
@@ -66,7 +66,7 @@ fn show_range(
 }
 
 // The ranges of storage that are no longer as they were.
-pub fn show_changes(rt: &LibcRuntime, before: &[u8], after: &[u8]) -> io::Result<()> {
+pub(crate) fn show_changes(rt: &LibcRuntime, before: &[u8], after: &[u8]) -> io::Result<()> {
     println!(rt, "Storage that changed:")?;
     let mut start = None;
     for (at, (old, new)) in before.iter().zip(after).enumerate() {

@@ -19,7 +19,7 @@ fn show_title(rt: &LibcRuntime, job: &Job) -> io::Result<()> {
 }
 
 // Runs a job and tells everything about it.
-pub fn run_job(rt: &LibcRuntime, job: &Job) -> Result<(), AnyError> {
+pub(crate) fn run_job(rt: &LibcRuntime, job: &Job) -> Result<(), AnyError> {
     show_title(rt, job)?;
     println!(rt, "The line \"{}\" waits at the console.", job.line)?;
     let mut storage = job.storage(rt.alloc())?;
@@ -34,7 +34,7 @@ pub fn run_job(rt: &LibcRuntime, job: &Job) -> Result<(), AnyError> {
 }
 
 // Runs a job for some steps, halts it, and tells how it stood then.
-pub fn halt_job(rt: &LibcRuntime, halt: &Halt) -> Result<(), AnyError> {
+pub(crate) fn halt_job(rt: &LibcRuntime, halt: &Halt) -> Result<(), AnyError> {
     show_title(rt, &halt.job)?;
     let mut storage = halt.job.storage(rt.alloc())?;
     let mut device = halt.job.console(rt.alloc())?;
@@ -57,7 +57,7 @@ pub fn halt_job(rt: &LibcRuntime, halt: &Halt) -> Result<(), AnyError> {
 }
 
 // Runs a damaged program and tells which rule it breaks.
-pub fn run_damaged(rt: &LibcRuntime, job: &Job) -> Result<(), AnyError> {
+pub(crate) fn run_damaged(rt: &LibcRuntime, job: &Job) -> Result<(), AnyError> {
     show_title(rt, job)?;
     let mut storage = job.storage(rt.alloc())?;
     let mut device = job.console(rt.alloc())?;

@@ -28,7 +28,7 @@ use std::io;
 const MOST_STEPS: u32 = 100;
 
 // Runs a program to its end, and tells what each CCW did.
-pub fn trace(
+pub(crate) fn trace(
     rt: &LibcRuntime,
     program: &mut Program,
     storage: &mut [u8],

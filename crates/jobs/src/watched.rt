@@ -27,7 +27,7 @@ pub struct Watched<D> {
 }
 
 impl<D> Watched<D> {
-    pub fn new(device: D) -> Watched<D> {
+    pub(crate) fn new(device: D) -> Watched<D> {
         Watched {
             device,
             notes: NOTHING,
@@ -35,7 +35,7 @@ impl<D> Watched<D> {
     }
 
     // Clears the notes.
-    pub fn forget(&mut self) {
+    pub(crate) fn forget(&mut self) {
         self.notes = NOTHING;
     }
 }

@@ -14,7 +14,7 @@ fn same_area(wanted: &[(usize, usize)], got: &[Piece]) -> bool {
 }
 
 impl Expected {
-    pub fn is(&self, got: &Result<Taken, Broken>) -> bool {
+    pub(crate) fn is(&self, got: &Result<Taken, Broken>) -> bool {
         match (*self, got) {
             (Expected::Accepted(ccw, code, area), Ok(taken)) => {
                 let pieces = &taken.pieces.items[..taken.pieces.len];

@@ -10,7 +10,7 @@ pub enum Formats {
 }
 
 impl Formats {
-    pub fn include(self, format: Format) -> bool {
+    pub(crate) fn include(self, format: Format) -> bool {
         match (self, format) {
             (Formats::Zero, Format::One) | (Formats::One, Format::Zero) => false,
             _ => true,
@@ -41,7 +41,7 @@ pub enum At {
 }
 
 impl At {
-    pub fn place(self) -> Place {
+    pub(crate) fn place(self) -> Place {
         match self {
             At::First(address) => Place {
                 address,

@@ -36,7 +36,7 @@ fn write_entry(storage: &mut [u8], format: Format, entry: Entry) {
 }
 
 // The storage of a row.
-pub fn build(heap: Global, format: Format, row: &Row) -> Result<Vec<u8>, AllocError> {
+pub(crate) fn build(heap: Global, format: Format, row: &Row) -> Result<Vec<u8>, AllocError> {
     let mut storage = vec![in heap; 0u8; row.length]?;
     for entry in row.contents {
         write_entry(&mut storage, format, *entry);

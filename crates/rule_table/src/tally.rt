@@ -49,7 +49,7 @@ impl Tally {
     }
 
     // Checks the rows of a rule, each in its formats.
-    pub fn check(&mut self, rt: &LibcRuntime, section: &Section) -> Result<(), AnyError> {
+    pub(crate) fn check(&mut self, rt: &LibcRuntime, section: &Section) -> Result<(), AnyError> {
         println!(rt, "Rule {}: {}", section.rule, section.title)?;
         for row in section.rows {
             for format in [Format::Zero, Format::One] {

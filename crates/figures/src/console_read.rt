@@ -3,9 +3,9 @@ ghost use Rattle.figures.specs.Cases.{read-program, read-answer, Worked-cases}
 use channel::program::Program;
 use console::state::access::new_console;
 use console::state::commands::ConsoleCommands;
-use unit::state::commands::UnitDevice;
 use format::ccw::Format;
 use format::status::StatusWord;
+use unit::state::commands::UnitDevice;
 
 // A storage with the CCW at 000100, that reads into 000200.
 fn storage_with(count: u16) -> [u8; 1024]

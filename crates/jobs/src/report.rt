@@ -8,8 +8,8 @@ use super::names::DEVICE_STATUS;
 use super::names::SUBCHANNEL_STATUS;
 use channel::program::Program;
 use console::state::Console;
-use std::io;
 use console::state::commands::ConsoleCommands;
+use std::io;
 
 // The status word in one line.
 pub(crate) fn show_word(rt: &LibcRuntime, program: &Program) -> io::Result<()> {

@@ -8,10 +8,10 @@ use super::trace::trace;
 use super::watched::WatchedDevice;
 use channel::program::Program;
 use console::state::commands::ConsoleCommands;
-use unit::state::commands::UnitDevice;
 use format::ccw::Format;
 use std::error::AnyError;
 use std::io;
+use unit::state::commands::UnitDevice;
 
 fn show_title(rt: &LibcRuntime, job: &Job) -> io::Result<()> {
     println!(rt)?;

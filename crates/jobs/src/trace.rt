@@ -13,7 +13,6 @@ use channel::program::Program;
 use channel::run::Run;
 use console::state::Console;
 use console::state::commands::ConsoleCommands;
-use unit::state::commands::UnitDevice;
 use device::interface::Begun;
 use format::class::Class;
 use rules::place::Broken;
@@ -23,6 +22,7 @@ use rules::storage::Plain;
 use rules::storage::PlainStorage;
 use rules::taking_up::take_up;
 use std::io;
+use unit::state::commands::UnitDevice;
 
 // A program that loops is left after so many CCWs.
 const MOST_STEPS: u32 = 100;

@@ -132,7 +132,7 @@ target-inside F L b a x e =
     go true h f = let z : a ≡ x = let y = transfer-ok F b a x true (Ok a) f in cc in omega arith
     go false h f = let z : a ≡ x = cc in omega arith
 
-found-inside : (F : Format) (L : ℕ) (b : Reader) (a x : ℕ) (first : Bool) → found F L b a first ≡ Ok x → x + 8 ≤ L
+pub found-inside : (F : Format) (L : ℕ) (b : Reader) (a x : ℕ) (first : Bool) → found F L b a first ≡ Ok x → x + 8 ≤ L
 found-inside F L b a x first e =
     let u = aligned-ok L a x _ e in
     go (transfer-at F b a) (u .0) (u .1)

@@ -1,0 +1,5 @@
+pub mod Law
+pub mod FrameSets
+pub mod Windows
+pub mod Places
+pub mod Views

@@ -1,10 +1,6 @@
 use super::ebcdic::encode;
-use super::watched::Watched;
-use console::state::Console;
-use console::state::access::new_console;
 use std::alloc::AllocError;
 use std::alloc::Global;
-use std::error::AnyError;
 
 // How many bytes the storage of a job has.
 const STORAGE: usize = 16384;
@@ -14,29 +10,34 @@ const STORAGE: usize = 16384;
 pub enum Entry {
     // A CCW of format 0: its code, flags, count and address.
     Ccw(u32, u8, u8, u16, u32),
-    // An indirect word.
+    // An indirect word, or the count of blocks to locate and the first of them.
     Word(u32, u32),
     // Text in EBCDIC.
     Text(u32, &'static str),
     Byte(u32, u8),
 }
 
-// A channel program with its data, and the console that it runs on.
+// A channel program with its data.
 #[derive(Clone, Copy)]
 pub struct Job {
     pub title: &'static str,
     // what happens, in words
     pub about: &'static str,
-    // the line that waits at the console
-    pub line: &'static str,
     pub contents: &'static [Entry],
     pub start: u32,
+}
+
+// A job on a console where this line waits.
+#[derive(Clone, Copy)]
+pub struct ConsoleJob {
+    pub line: &'static str,
+    pub job: Job,
 }
 
 // A job that is given so many steps and is then halted.
 #[derive(Clone, Copy)]
 pub struct Halt {
-    pub job: Job,
+    pub job: ConsoleJob,
     pub steps: u64,
 }
 
@@ -74,17 +75,5 @@ impl Job {
             write_entry(&mut storage, *entry);
         }
         Ok(storage)
-    }
-
-    // The console with the line of the job.
-    pub(crate) fn console(&self, heap: Global) -> Result<Watched<Console>, AnyError> {
-        let mut line = Vec::new(heap);
-        for character in self.line.as_bytes() {
-            line.push(encode(*character))?;
-        }
-        match new_console(&line) {
-            Some(console) => Ok(Watched::new(console)),
-            None => Err("the line is too long".into()),
-        }
     }
 }

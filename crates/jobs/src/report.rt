@@ -6,10 +6,11 @@ use super::names::Bits;
 use super::names::BitsDisplay;
 use super::names::DEVICE_STATUS;
 use super::names::SUBCHANNEL_STATUS;
+use super::units::Shown;
 use channel::program::Program;
-use console::state::Console;
-use console::state::commands::ConsoleCommands;
 use std::io;
+use unit::model::Model;
+use unit::state::Unit;
 
 // The status word in one line.
 pub(crate) fn show_word(rt: &LibcRuntime, program: &Program) -> io::Result<()> {
@@ -37,17 +38,10 @@ pub(crate) fn show_status(rt: &LibcRuntime, program: &Program) -> io::Result<()>
     Ok(())
 }
 
-pub(crate) fn show_console(rt: &LibcRuntime, console: &Console) -> io::Result<()> {
-    let paper = console.model().paper();
-    let line = console.model().line();
-    println!(rt, "Paper, length {}: \"{}\"", paper.len(), Text(paper))?;
-    println!(
-        rt,
-        "Waiting line, length {}: \"{}\"",
-        line.len(),
-        Text(line)
-    )?;
-    println!(rt, "Sense byte {:02X}", console.sense())
+// What a person sees at the device, and its sense byte.
+pub(crate) fn show_unit<M: Model + Shown>(rt: &LibcRuntime, unit: &Unit<M>) -> io::Result<()> {
+    unit.model().show(rt)?;
+    println!(rt, "Sense byte {:02X}", unit.sense())
 }
 
 fn show_range(
@@ -67,6 +61,9 @@ fn show_range(
 
 // The ranges of storage that are no longer as they were.
 pub(crate) fn show_changes(rt: &LibcRuntime, before: &[u8], after: &[u8]) -> io::Result<()> {
+    if before == after {
+        return println!(rt, "No storage changed");
+    }
     println!(rt, "Storage that changed:")?;
     let mut start = None;
     for (at, (old, new)) in before.iter().zip(after).enumerate() {

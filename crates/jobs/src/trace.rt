@@ -11,9 +11,8 @@ use super::watched::Watched;
 use super::watched::WatchedDevice;
 use channel::program::Program;
 use channel::run::Run;
-use console::state::Console;
-use console::state::commands::ConsoleCommands;
 use device::interface::Begun;
+use device::interface::Device;
 use format::class::Class;
 use rules::place::Broken;
 use rules::place::Place;
@@ -22,17 +21,16 @@ use rules::storage::Plain;
 use rules::storage::PlainStorage;
 use rules::taking_up::take_up;
 use std::io;
-use unit::state::commands::UnitDevice;
 
 // A program that loops is left after so many CCWs.
 const MOST_STEPS: u32 = 100;
 
 // Runs a program to its end, and tells what each CCW did.
-pub(crate) fn trace(
+pub(crate) fn trace<D: Device>(
     rt: &LibcRuntime,
     program: &mut Program,
     storage: &mut [u8],
-    device: &mut Watched<Console>,
+    device: &mut Watched<D>,
 ) -> io::Result<()> {
     for _ in 0..MOST_STEPS {
         let Run::Running { place, owed: _ } = program.run else {
@@ -43,12 +41,12 @@ pub(crate) fn trace(
     Ok(())
 }
 
-fn trace_step(
+fn trace_step<D: Device>(
     rt: &LibcRuntime,
     program: &mut Program,
     place: Place,
     storage: &mut [u8],
-    device: &mut Watched<Console>,
+    device: &mut Watched<D>,
 ) -> io::Result<()> {
     device.forget();
     match take_up(&Plain { storage }, program.format, place) {

@@ -11,6 +11,6 @@ check:
 	rt check
 
 # Proves every crate from nothing, tries every must-fail edit, runs the programs and tests.
-# Its last line is 'N passed, 0 failed'; anything else makes it fail.
+# Its last line is 'N passed, 0 failed'; anything else makes it fail. Three provers keep two cores busy.
 test:
-	@rt ci
+	@RT_JOBS=3 rt ci

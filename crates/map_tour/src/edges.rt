@@ -148,7 +148,7 @@ fn print_puts(rt: &LibcRuntime) -> Result<(), AnyError> {
     }
 }
 
-pub fn tour(rt: &LibcRuntime) -> Result<(), AnyError> {
+pub(crate) fn tour(rt: &LibcRuntime) -> Result<(), AnyError> {
     println!(rt, "edges")?;
     for count in [127, 128, 129] {
         print_long_table(rt, count)?;

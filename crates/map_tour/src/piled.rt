@@ -58,7 +58,7 @@ fn print_changes<M: Map>(rt: &LibcRuntime, name: &str, map: &mut M) -> Result<()
     print_put(rt, map, 2, 4)
 }
 
-pub fn tour(rt: &LibcRuntime) -> Result<(), AnyError> {
+pub(crate) fn tour(rt: &LibcRuntime) -> Result<(), AnyError> {
     let table = table()?;
     print_map(rt, "page table", &table)?;
     let outer = window(table, 1, 3)?;

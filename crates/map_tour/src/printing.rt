@@ -22,7 +22,7 @@ pub impl fmt::Display for Refused as RefusedDisplay {
 }
 
 // The frames of a map by page, and its free frames.
-pub fn print_map<M: Map>(rt: &LibcRuntime, name: &str, map: &M) -> Result<(), AnyError> {
+pub(crate) fn print_map<M: Map>(rt: &LibcRuntime, name: &str, map: &M) -> Result<(), AnyError> {
     print!(rt, "{name}: frames")?;
     for page in 0..map.page_count() {
         print!(rt, " {}", map.frame_of(page))?;
@@ -37,7 +37,7 @@ pub fn print_map<M: Map>(rt: &LibcRuntime, name: &str, map: &M) -> Result<(), An
     Ok(())
 }
 
-pub fn print_place<M: Map>(rt: &LibcRuntime, map: &M, address: u32) -> Result<(), AnyError> {
+pub(crate) fn print_place<M: Map>(rt: &LibcRuntime, map: &M, address: u32) -> Result<(), AnyError> {
     match place(map, GuestAddress(address)) {
         Ok(host) => println!(rt, "  place of {address:05X}: {:05X}", host.0)?,
         Err(refusal) => println!(rt, "  place of {address:05X}: {}", Refused(refusal))?,
@@ -45,7 +45,7 @@ pub fn print_place<M: Map>(rt: &LibcRuntime, map: &M, address: u32) -> Result<()
     Ok(())
 }
 
-pub fn print_home<M: Map>(rt: &LibcRuntime, map: &M, address: u32) -> Result<(), AnyError> {
+pub(crate) fn print_home<M: Map>(rt: &LibcRuntime, map: &M, address: u32) -> Result<(), AnyError> {
     match home(map, HostAddress(address)) {
         Some(guest) => println!(rt, "  home of {address:05X}: {:05X}", guest.0)?,
         None => println!(rt, "  home of {address:05X}: none")?,
@@ -54,7 +54,7 @@ pub fn print_home<M: Map>(rt: &LibcRuntime, map: &M, address: u32) -> Result<(),
 }
 
 // How a call ended that answers nothing more.
-pub fn print_outcome(rt: &LibcRuntime, outcome: Result<(), Refusal>) -> Result<(), AnyError> {
+pub(crate) fn print_outcome(rt: &LibcRuntime, outcome: Result<(), Refusal>) -> Result<(), AnyError> {
     match outcome {
         Ok(()) => println!(rt, "done")?,
         Err(refusal) => println!(rt, "{}", Refused(refusal))?,
@@ -62,7 +62,7 @@ pub fn print_outcome(rt: &LibcRuntime, outcome: Result<(), Refusal>) -> Result<(
     Ok(())
 }
 
-pub fn print_put<M: Map>(
+pub(crate) fn print_put<M: Map>(
     rt: &LibcRuntime,
     map: &mut M,
     page: usize,

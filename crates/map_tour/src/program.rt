@@ -120,7 +120,7 @@ fn print_agreement(
     Ok(())
 }
 
-pub fn tour(rt: &LibcRuntime) -> Result<(), AnyError> {
+pub(crate) fn tour(rt: &LibcRuntime) -> Result<(), AnyError> {
     let table = match PageTable::new(&[3, 1], &[]) {
         Ok(table) => table,
         Err(_) => return Err("a page table was refused".into()),

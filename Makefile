@@ -1,10 +1,12 @@
-# run: prove the entry point and run it.  check: daily work.  test: the gate.
-.PHONY: run check test
+# run: prove the entry point and run it.  maps: the same for the tour of maps.  check: daily work.  test: the gate.
+.PHONY: run maps check test
 
-run:
+run: PROGRAM = jobs
+maps: PROGRAM = map_tour
+run maps:
 	@mkdir -p target
-	@rt check jobs > target/run.log 2>&1 || { cat target/run.log; exit 1; }
-	@target/bin/jobs
+	@rt check $(PROGRAM) > target/$@.log 2>&1 || { cat target/$@.log; exit 1; }
+	@target/bin/$(PROGRAM)
 
 # Proves what changed, runs the programs and tests; takes over what stayed.
 check:

@@ -1,9 +1,9 @@
 -- What a program's calls do to a disk that has nothing open, and the two theorems.
-use mathlib.Core.Path.{_≡_, refl, sym, ap, subst, _∙_}
+use mathlib.Core.Path.{_≡_, refl, sym, ap, _∙_}
 use mathlib.Core.List.{List, [], _∷_, _++_}
 use mathlib.Core.Bool.{Bool, true, false, cond}
-use mathlib.Core.Logic.{_⊎_, inl, inr}
-use Prim.Native.Nat.{ℕ, _+_, _*_, _/_, _%_, _<_, _≤_, min}
+use mathlib.Core.Logic.{inl, inr}
+use Prim.Native.Nat.{ℕ, _+_, _/_, _%_, _≤_, min}
 use native.Mathlib.Omega.{arith}
 use lib.Dec.{eqb, leb}
 use lib.ListN.{length, take, drop, length-take}
@@ -11,7 +11,6 @@ use borrow.Author.Tests.{leb-true}
 use Rattle.std.proofs.shelf.Lists.{append-nil, drop-all, take-all}
 use Rattle.std.specs.declared.option.Option.{Option}
 use Rattle.std.specs.declared.option.Option.the-variants.{None, Some}
-use Rattle.device.specs.Machine.{Pending, shut, due}
 use Rattle.device.specs.Parts.{total, joined, Parts-are-one-move}
 use Rattle.device.proofs.Moving.{parts-are-one-move}
 use Rattle.unit.specs.UnitLaws.{unit-laws}
@@ -20,11 +19,10 @@ use Rattle.unit.specs.declared.state.Sensing.{Sensing}
 use Rattle.unit.specs.declared.state.Sensing.the-variants.{Closed, Unread, Read}
 use Rattle.disk.specs.declared.blocks.Location.{Location}
 use Rattle.disk.specs.Blocks.{size-of, address-of, range-exists, blocks-at, block-at, put-at}
-use Rattle.disk.specs.Reach.{location-end}
-use Rattle.disk.specs.DiskState.{DiskState, Command, none, locating, writing, reading, Whole}
+use Rattle.disk.specs.DiskState.{DiskState, location-end, Command, none, locating, writing, reading}
 use Rattle.disk.specs.DiskMachine.{disk-core, disk-machine, big-endian, location-of, end-locate}
 use Rattle.disk.specs.DiskLaws.{disk-laws, length-bytes-at}
-use Rattle.disk.specs.Programs.{State, Idle, naming, located, while-written, written, read-out, after-read}
+use Rattle.disk.specs.Programs.{State, Idle, naming, located, while-written, written, to-read, read-out, after-read}
 use Rattle.disk.specs.Theorems.{Read-returns-what-was-written, Not-located, Write-changes-no-other-block}
 use Rattle.disk.proofs.Stored.{put-is-found, put-stays-before, put-stays-behind}
 
@@ -138,13 +136,12 @@ write-keeps start blocks parts s block at-rest whole exists apart =
     ∙ kept-block block parts there (s .core .bytes) whole (in-range (eqb blocks 0) start blocks exists) apart
 
 -- what a buffer of their size holds after located blocks are read
-pub read-fills : (start blocks r : ℕ) (buffer filled : List ℕ) (s opened : State) → opened ≡ disk-machine .begun 0x42 (located start blocks s) .1 → r ≡ min (length buffer) (length (due (disk-machine .pending opened))) → filled ≡ take (length buffer) (due (disk-machine .pending opened)) ++ drop r buffer → Idle s → range-exists start blocks ≡ true → length buffer ≡ size-of blocks → filled ≡ blocks-at start blocks (s .core .bytes)
-read-fills start blocks r buffer filled s opened begins moved fills at-rest exists size =
+pub read-fills : (start blocks r : ℕ) (buffer filled : List ℕ) (s : State) → Idle s → range-exists start blocks ≡ true → length buffer ≡ size-of blocks → r ≡ min (length buffer) (length (to-read (located start blocks s))) → filled ≡ take (length buffer) (to-read (located start blocks s)) ++ drop r buffer → filled ≡ blocks-at start blocks (s .core .bytes)
+read-fills start blocks r buffer filled s at-rest exists size moved fills =
     let here = blocks-at start blocks (s .core .bytes) in
-    let due-now : due (disk-machine .pending opened) ≡ here =
-    ap (λ x. due (disk-machine .pending x)) begins
-    ∙ ap (λ x. due (disk-machine .pending (disk-machine .begun 0x42 (located start blocks x) .1))) (is-idle s at-rest)
-    ∙ ap (λ x. due (disk-machine .pending (disk-machine .begun 0x42 x .1))) (located-there (s .sense) start blocks (s .core .location) (s .core .bytes) exists) in
+    let due-now : to-read (located start blocks s) ≡ here =
+    ap (λ x. to-read (located start blocks x)) (is-idle s at-rest)
+    ∙ ap to-read (located-there (s .sense) start blocks (s .core .location) (s .core .bytes) exists) in
     let as-many : length here ≡ size-of blocks = length-bytes-at (address-of start) (size-of blocks) (s .core .bytes) in
     let all-read : length buffer ≤ r = omega (arith, ap length due-now) in
     fills
@@ -174,19 +171,10 @@ held-after start blocks bytes s at-rest whole exists size =
     ∙ sym (take-all n here (omega (arith, length-bytes-at (address-of start) n (put-at (address-of start) (take n bytes) (s .core .bytes)))))
     ∙ written-and-read start blocks n bytes (s .core .bytes) (in-range (eqb blocks 0) start blocks exists) whole size refl
 
--- the calls of a program, one after the other
-
-pub writing-calls : (start blocks : ℕ) (bytes : List ℕ) (s : State) {named begun taken ended : State} → named ≡ located start blocks s → begun ≡ disk-machine .begun 0x41 named .1 → taken ≡ disk-machine .taken bytes begun → ended ≡ disk-machine .ended taken .1 → ended ≡ written (bytes ∷ []) (located start blocks s)
-writing-calls start blocks bytes s e f g h =
-    h ∙ ap (λ x. disk-machine .ended x .1) (g ∙ ap (disk-machine .taken bytes) (f ∙ ap (λ x. disk-machine .begun 0x41 x .1) e))
-
-pub reading-calls : (start blocks n : ℕ) (s : State) {named begun given ended : State} → named ≡ located start blocks s → begun ≡ disk-machine .begun 0x42 named .1 → given ≡ disk-machine .given n begun → ended ≡ disk-machine .ended given .1 → ended ≡ after-read (n ∷ []) (located start blocks s)
-reading-calls start blocks n s e f g h =
-    h ∙ ap (λ x. disk-machine .ended x .1) (g ∙ ap (disk-machine .given n) (f ∙ ap (λ x. disk-machine .begun 0x42 x .1) e))
-
--- of two ways, the one that is taken
-pub if-exists : {b : Bool} {s done : State} (before : State) → b ≡ true → s ≡ done → s ≡ cond b done before
-if-exists {done = done} before e f = f ∙ sym (ap (λ b. cond b done before) e)
-
-pub since-exists : {b : Bool} {s done : State} (before : State) → b ≡ true → s ≡ cond b done before → s ≡ done
-since-exists {done = done} before e f = f ∙ ap (λ b. cond b done before) e
+-- a read of located blocks leaves the bytes
+pub read-keeps : (start blocks : ℕ) (sizes : List ℕ) (s : State) → Idle s → range-exists start blocks ≡ true → after-read sizes (located start blocks s) .core .bytes ≡ s .core .bytes
+read-keeps start blocks sizes s at-rest exists =
+    let there : State = idle (s .sense) (Some (place-of start blocks)) (s .core .bytes) in
+    ap (λ x. after-read sizes (located start blocks x) .core .bytes) (is-idle s at-rest)
+    ∙ ap (λ x. after-read sizes x .core .bytes) (located-there (s .sense) start blocks (s .core .location) (s .core .bytes) exists)
+    ∙ ap (λ x. disk-machine .ended x .1 .core .bytes) (one-move .0 sizes (disk-machine .begun 0x42 there .1) .0)

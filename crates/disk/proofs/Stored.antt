@@ -1,7 +1,7 @@
 -- Bytes that lie within a store.
 use mathlib.Core.Path.{_≡_, refl, sym, ap, _∙_}
 use mathlib.Core.List.{List, _++_}
-use Prim.Native.Nat.{ℕ, _+_, _-_, _≤_}
+use Prim.Native.Nat.{ℕ, _+_, _≤_}
 use native.Mathlib.Omega.{arith}
 use lib.ListN.{length, take, drop, replicate, length-append, length-take, length-drop}
 use Rattle.std.proofs.shelf.Lists.{append-assoc, drop-at, drop-take, length-take-le, take-append-le, take-at}

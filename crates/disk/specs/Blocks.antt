@@ -1,7 +1,7 @@
 -- Where blocks lie. A reader must believe: a store is 64 blocks of 512 bytes, one after the other, and its
 -- bytes are a list from address 0 on.
 use mathlib.Core.List.{List, _++_}
-use mathlib.Core.Bool.{Bool, true, false, cond}
+use mathlib.Core.Bool.{Bool, false, cond}
 use Prim.Native.Nat.{ℕ, _+_, _*_}
 use lib.Dec.{eqb, leb}
 use lib.ListN.{length, take, drop, replicate}

@@ -1,7 +1,7 @@
 -- The disk's commands. A reader must believe: for each code the answer and the state after it, what a locate
 -- names, and where the bytes of a write go, are as here; what every device shares is added by `unit-machine`.
 use mathlib.Core.List.{List, [], _++_}
-use mathlib.Core.Bool.{false, cond}
+use mathlib.Core.Bool.{cond}
 use Prim.Native.Nat.{ℕ, _+_, _-_, _*_}
 use lib.Dec.{eqb}
 use lib.ListN.{length, getD, take, drop}

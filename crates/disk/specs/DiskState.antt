@@ -2,11 +2,11 @@
 -- read or write is for, and the open command are all that it is.
 use mathlib.Core.Path.{_≡_}
 use mathlib.Core.List.{List}
-use Prim.Native.Nat.{ℕ, _≤_}
+use Prim.Native.Nat.{ℕ, _+_, _≤_}
 use lib.ListN.{length}
 use Rattle.std.specs.declared.option.Option.{Option}
+use Rattle.std.specs.declared.option.Option.the-variants.{None, Some}
 use Rattle.disk.specs.declared.blocks.Location.{Location}
-use Rattle.disk.specs.Reach.{location-end}
 
 -- the open command
 pub data Command : Type 0 where
@@ -22,6 +22,11 @@ pub record DiskState : Type 0 where
   pub bytes : List ℕ
   pub location : Option Location
   pub command : Command
+
+-- the block behind the located ones
+abbrev pub location-end : Option Location → ℕ
+location-end None = 0
+location-end (Some place) = place .first + place .count
 
 -- a disk has 64 blocks of 512 bytes, and its location names none past the last
 abbrev pub Whole : DiskState → Type 0

@@ -20,16 +20,27 @@ Idle s = disk-machine .pending s ≡ shut
 abbrev pub naming : ℕ → ℕ → List ℕ
 naming start blocks = blocks / 256 ∷ blocks % 256 ∷ start / 256 ∷ start % 256 ∷ []
 
--- the disk after some blocks were located
-abbrev pub located : ℕ → ℕ → State → State
-located start blocks s = disk-machine .ended (disk-machine .taken (naming start blocks) (disk-machine .begun 0x43 s .1)) .1
+-- the status that a locate of some blocks ends with, and the disk after it
+abbrev pub locating-ends : ℕ → ℕ → State → ℕ × State
+locating-ends start blocks s = disk-machine .ended (disk-machine .taken (naming start blocks) (disk-machine .begun 0x43 s .1))
 
--- the disk while the located blocks are written, and after it
+abbrev pub located : ℕ → ℕ → State → State
+located start blocks s = locating-ends start blocks s .1
+
+-- the disk while the located blocks are written
 abbrev pub while-written : List (List ℕ) → State → State
 while-written parts s = taken-all disk-machine parts (disk-machine .begun 0x41 s .1)
 
+-- the status that the write ends with, and the disk after it
+abbrev pub writing-ends : List (List ℕ) → State → ℕ × State
+writing-ends parts s = disk-machine .ended (while-written parts s)
+
 abbrev pub written : List (List ℕ) → State → State
-written parts s = disk-machine .ended (while-written parts s) .1
+written parts s = writing-ends parts s .1
+
+-- the bytes that a read of the located blocks has to hand out
+abbrev pub to-read : State → List ℕ
+to-read s = due (disk-machine .pending (disk-machine .begun 0x42 s .1))
 
 -- what a read of the located blocks hands out, in parts of these sizes, and the disk after it
 abbrev pub read-out : List ℕ → State → List ℕ
@@ -38,10 +49,6 @@ read-out sizes s = handed-out disk-machine sizes (disk-machine .begun 0x42 s .1)
 abbrev pub after-read : List ℕ → State → State
 after-read sizes s = disk-machine .ended (given-all disk-machine sizes (disk-machine .begun 0x42 s .1)) .1
 
--- what a read of the located blocks can hand out
-abbrev pub heard : State → List ℕ
-heard s = due (disk-machine .pending (disk-machine .begun 0x42 s .1))
-
 -- a buffer after these bytes were handed out into it
-abbrev pub filled : List ℕ → List ℕ → List ℕ
-filled bytes buffer = take (length buffer) bytes ++ drop (min (length buffer) (length bytes)) buffer
+abbrev pub overlaid : List ℕ → List ℕ → List ℕ
+overlaid bytes buffer = take (length buffer) bytes ++ drop (min (length buffer) (length bytes)) buffer

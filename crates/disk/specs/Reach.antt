@@ -1,9 +1,5 @@
--- How far the open command and the location reach. A reader must believe nothing: these only bound what the
--- code keeps.
-use Prim.Native.Nat.{ℕ, _+_}
-use Rattle.std.specs.declared.option.Option.{Option}
-use Rattle.std.specs.declared.option.Option.the-variants.{None, Some}
-use Rattle.disk.specs.declared.blocks.Location.{Location}
+-- How far the open command has come. A reader must believe nothing: these only bound what the code keeps.
+use Prim.Native.Nat.{ℕ}
 use Rattle.disk.specs.declared.state.Phase.{Phase}
 use Rattle.disk.specs.declared.state.Phase.the-variants.{Idle, Locating, Writing, Reading}
 
@@ -20,8 +16,3 @@ reach Idle = 0
 reach (Locating taken) = 4
 reach (Writing next limit) = limit
 reach (Reading next limit) = limit
-
--- the block behind the located ones
-abbrev pub location-end : Option Location → ℕ
-location-end None = 0
-location-end (Some place) = place .first + place .count

@@ -10,7 +10,6 @@ use Rattle.std.specs.declared.option.Option.the-variants.{None, Some}
 use Rattle.device.specs.Parts.{total, joined}
 use Rattle.disk.specs.declared.blocks.Location.{Location}
 use Rattle.disk.specs.Blocks.{size-of, range-exists, block-at}
-use Rattle.disk.specs.DiskMachine.{disk-machine}
 use Rattle.disk.specs.DiskState.{Whole}
 use Rattle.disk.specs.Programs.{State, Idle, located, while-written, written, read-out}
 

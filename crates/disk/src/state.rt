@@ -1,7 +1,8 @@
 ghost use mathlib.Core.Path.{_≡_};
 ghost use Prim.Native.Nat.{_≤_};
 ghost use lib.ListN.{length};
-ghost use Rattle.disk.specs.Reach.{location-end, reach, reached};
+ghost use Rattle.disk.specs.DiskState.{location-end};
+ghost use Rattle.disk.specs.Reach.{reach, reached};
 use crate::blocks::Location;
 use crate::blocks::STORE_SIZE;
 use unit::state::Unit;
@@ -31,7 +32,7 @@ pub struct DiskModel {
     parameters: [u8; PARAMETERS],
     phase: Phase,
     ghost full: { length bytes ≡ 32768 },
-    ghost located: { location-end location ≤ 64 },
+    ghost location_fits: { location-end location ≤ 64 },
     ghost within: { reached phase ≤ reach phase },
     ghost inside: { reach phase ≤ 32768 },
 }

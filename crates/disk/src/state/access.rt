@@ -11,11 +11,10 @@ use super::DiskModel;
 use super::PARAMETERS;
 use super::Phase;
 use super::commands::DiskCommands;
-use crate::blocks::BLOCK_SIZE;
 use crate::blocks::BLOCKS;
 use crate::blocks::Location;
 use crate::blocks::STORE_SIZE;
-use crate::blocks::address_of;
+use crate::blocks::block_of;
 use unit::state::Unit;
 
 // A disk that holds these bytes, with no location and nothing open.
@@ -55,7 +54,7 @@ impl DiskModel {
         ensures value { λ r. ⌜ now r ≡ model-meaning (now (self .entry)) .bytes ⌝ }
         ensures whole { λ _. ⌜ Whole (model-meaning (now (self .entry))) ⌝ }
     {
-        &self.bytes
+        &self.bytes[..]
     }
 
     // The bytes of a block, or none if there is no such block.
@@ -65,8 +64,7 @@ impl DiskModel {
         if index >= BLOCKS {
             return None;
         }
-        let start = address_of(index);
-        Some(&self.bytes[start..start + BLOCK_SIZE])
+        Some(block_of(&self.bytes, index))
     }
 
     // The blocks that the next write or read is for.

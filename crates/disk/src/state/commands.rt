@@ -1,8 +1,7 @@
 ghost use mathlib.Core.Path.{_≡_};
 ghost use Prim.Native.Nat.{_≤_};
-ghost use lib.ListN.{length};
 ghost use Rattle.disk.specs.DiskMachine.{begin-read, begin-write, big-endian, disk-core, location-by};
-ghost use Rattle.disk.specs.Reach.{location-end};
+ghost use Rattle.disk.specs.DiskState.{location-end};
 ghost use Rattle.disk.specs.DiskLaws.{disk-laws};
 ghost use Rattle.disk.specs.Meaning.{model-meaning};
 use super::DiskModel;
@@ -41,10 +40,10 @@ const NOT_LOCATED: Started = Started::Fault {
 };
 
 // The number that two bytes are.
-fn big_endian(high: u8, low: u8) -> usize
+fn big_endian(high: u8, low: u8) -> u16
     ensures { λ r. ⌜ r ≡ big-endian high low ⌝ }
 {
-    usize::from(high) * 256 + usize::from(low)
+    high as u16 * 256 + low as u16
 }
 
 // The blocks that the bytes of a locate name, if they are enough bytes and the blocks exist.
@@ -72,8 +71,8 @@ impl DiskModel {
         match self.location {
             None => NOT_LOCATED,
             Some(location) => {
-                let next = address_of(location.first);
-                let limit = address_of(location.first + location.count);
+                let next = address_of(location.first as usize);
+                let limit = address_of(location.first as usize + location.count as usize);
                 self.phase = Phase::Writing { next, limit };
                 let most = (limit - next) as u32;
                 Started::Open { least: most, most }
@@ -89,8 +88,8 @@ impl DiskModel {
         match self.location {
             None => NOT_LOCATED,
             Some(location) => {
-                let next = address_of(location.first);
-                let limit = address_of(location.first + location.count);
+                let next = address_of(location.first as usize);
+                let limit = address_of(location.first as usize + location.count as usize);
                 self.phase = Phase::Reading { next, limit };
                 let most = (limit - next) as u32;
                 Started::Open { least: most, most }
@@ -117,7 +116,8 @@ pub impl Model for DiskModel as DiskCommands {
         match code {
             LOCATE => {
                 self.phase = Phase::Locating(0);
-                Started::Open { least: 4, most: 4 }
+                let most = PARAMETERS as u32;
+                Started::Open { least: most, most }
             }
             WRITE => self.begin_write(),
             READ => self.begin_read(),

@@ -54,7 +54,10 @@ pub(crate) fn print_home<M: Map>(rt: &LibcRuntime, map: &M, address: u32) -> Res
 }
 
 // How a call ended that answers nothing more.
-pub(crate) fn print_outcome(rt: &LibcRuntime, outcome: Result<(), Refusal>) -> Result<(), AnyError> {
+pub(crate) fn print_outcome(
+    rt: &LibcRuntime,
+    outcome: Result<(), Refusal>,
+) -> Result<(), AnyError> {
     match outcome {
         Ok(()) => println!(rt, "done")?,
         Err(refusal) => println!(rt, "{}", Refused(refusal))?,

@@ -13,6 +13,6 @@ check:
 	rt check
 
 # Proves every crate from nothing, tries every must-fail edit, runs the programs and tests.
-# Its last line is 'N passed, 0 failed'; anything else makes it fail. Three provers keep two cores busy.
+# Its last line is 'N passed, 0 failed'; anything else makes it fail.
 test:
-	@RT_JOBS=3 rt ci
+	@rt ci

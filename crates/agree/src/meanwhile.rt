@@ -22,13 +22,13 @@ pub fn may_store<M: Map, D: Device>(
     size: usize,
 ) -> bool
     ensures is { result ≡ not (is_some (touched (extents_in own.now) address size)) }
-    ensures agree { StoresAgree machine (frames map.now) (free map.now) }
+    ensures agree { StoresAgree D.machine (M.frames map.now) (M.free map.now) }
 {
     is_clear(own, address, size)
 }
 
 fn is_movable<M: Map>(map: &M, page: usize, frame: u8, has_data: bool) -> bool
-    ensures { result ≡ ((not has_data && nat_lt page (length (frames map.now))) && free map.now frame) }
+    ensures { result ≡ ((not has_data && nat_lt page (length (M.frames map.now))) && M.free map.now frame) }
 {
     !has_data && page < map.page_count() && map.is_free(frame)
 }
@@ -41,8 +41,8 @@ pub fn may_move<M: Map, D: Device>(
     frame: u8,
     has_data: bool,
 ) -> bool
-    ensures is { result ≡ ((not has_data && nat_lt page (length (frames map.now))) && free map.now frame) }
-    ensures agree { MovesAgree machine (frames map.now) (free map.now) }
+    ensures is { result ≡ ((not has_data && nat_lt page (length (M.frames map.now))) && M.free map.now frame) }
+    ensures agree { MovesAgree D.machine (M.frames map.now) (M.free map.now) }
 {
     is_movable(map, page, frame, has_data)
 }

@@ -39,8 +39,8 @@ impl Twin {
     // program's start address.
     pub fn start<M: Map, D: Device>(map: &M, device: &D, address: u32) -> Twin
         ensures is { (result.host ≡ started 0) × (result.direct ≡ started address) }
-        ensures cells { CellsAgree (frames map.now) (free map.now) }
-        ensures agree { StartsAgree machine (frames map.now) (free map.now) }
+        ensures cells { CellsAgree (M.frames map.now) (M.free map.now) }
+        ensures agree { StartsAgree D.machine (M.frames map.now) (M.free map.now) }
     {
         Twin::at_start(address)
     }
@@ -52,10 +52,10 @@ impl Twin {
         direct: &mut [u8],
         direct_device: &mut D,
     )
-        ensures host { whole machine host.new (state host_device.new) self.new.host
-            ≡ stepped machine format_one (whole machine host.old (state host_device.old) self.old.host) }
-        ensures direct { whole machine direct.new (state direct_device.new) self.new.direct
-            ≡ stepped machine format_zero (whole machine direct.old (state direct_device.old) self.old.direct) }
+        ensures host { whole D.machine host.new (D.state host_device.new) self.new.host
+            ≡ stepped D.machine format_one (whole D.machine host.old (D.state host_device.old) self.old.host) }
+        ensures direct { whole D.machine direct.new (D.state direct_device.new) self.new.direct
+            ≡ stepped D.machine format_zero (whole D.machine direct.old (D.state direct_device.old) self.old.direct) }
     {
         let mut on_host = Program {
             format: Format::One,
@@ -80,16 +80,16 @@ impl Twin {
         direct: &mut [u8],
         direct_device: &mut D,
     )
-        ensures host { whole machine host.new (state host_device.new) self.new.host
-            ≡ stepped machine format_one (whole machine host.old (state host_device.old) self.old.host) }
-        ensures direct { whole machine direct.new (state direct_device.new) self.new.direct
-            ≡ stepped machine format_zero (whole machine direct.old (state direct_device.old) self.old.direct) }
-        ensures agree { StepsAgree machine (frames map.now) (free map.now) }
-        ensures together { Together machine (frames map.now) (free map.now)
-            (whole machine host.old (state host_device.old) self.old.host)
-            (whole machine direct.old (state direct_device.old) self.old.direct)
-            (whole machine host.new (state host_device.new) self.new.host)
-            (whole machine direct.new (state direct_device.new) self.new.direct) }
+        ensures host { whole D.machine host.new (D.state host_device.new) self.new.host
+            ≡ stepped D.machine format_one (whole D.machine host.old (D.state host_device.old) self.old.host) }
+        ensures direct { whole D.machine direct.new (D.state direct_device.new) self.new.direct
+            ≡ stepped D.machine format_zero (whole D.machine direct.old (D.state direct_device.old) self.old.direct) }
+        ensures agree { StepsAgree D.machine (M.frames map.now) (M.free map.now) }
+        ensures together { Together D.machine (M.frames map.now) (M.free map.now)
+            (whole D.machine host.old (D.state host_device.old) self.old.host)
+            (whole D.machine direct.old (D.state direct_device.old) self.old.direct)
+            (whole D.machine host.new (D.state host_device.new) self.new.host)
+            (whole D.machine direct.new (D.state direct_device.new) self.new.direct) }
     {
         self.step_sides(host, host_device, direct, direct_device);
     }
@@ -102,12 +102,12 @@ impl Twin {
         direct_device: &mut D,
         limit: u64,
     ) -> Progresses
-        ensures host { ◌≡◌ {A = ℕ × World machine}
-            (result.host.count, whole machine host.new (state host_device.new) self.new.host)
-            (advanced machine format_one limit (whole machine host.old (state host_device.old) self.old.host)) }
-        ensures direct { ◌≡◌ {A = ℕ × World machine}
-            (result.direct.count, whole machine direct.new (state direct_device.new) self.new.direct)
-            (advanced machine format_zero limit (whole machine direct.old (state direct_device.old) self.old.direct)) }
+        ensures host { ◌≡◌ {A = ℕ × World D.machine}
+            (result.host.count, whole D.machine host.new (D.state host_device.new) self.new.host)
+            (advanced D.machine format_one limit (whole D.machine host.old (D.state host_device.old) self.old.host)) }
+        ensures direct { ◌≡◌ {A = ℕ × World D.machine}
+            (result.direct.count, whole D.machine direct.new (D.state direct_device.new) self.new.direct)
+            (advanced D.machine format_zero limit (whole D.machine direct.old (D.state direct_device.old) self.old.direct)) }
         ensures ended { (result.host.ended ≡ is_ended self.new.host) × (result.direct.ended ≡ is_ended self.new.direct) }
     {
         let mut on_host = Program {
@@ -138,30 +138,30 @@ impl Twin {
         direct_device: &mut D,
         limit: u64,
     ) -> Progresses
-        ensures host { ◌≡◌ {A = ℕ × World machine}
-            (result.host.count, whole machine host.new (state host_device.new) self.new.host)
-            (advanced machine format_one limit (whole machine host.old (state host_device.old) self.old.host)) }
-        ensures direct { ◌≡◌ {A = ℕ × World machine}
-            (result.direct.count, whole machine direct.new (state direct_device.new) self.new.direct)
-            (advanced machine format_zero limit (whole machine direct.old (state direct_device.old) self.old.direct)) }
+        ensures host { ◌≡◌ {A = ℕ × World D.machine}
+            (result.host.count, whole D.machine host.new (D.state host_device.new) self.new.host)
+            (advanced D.machine format_one limit (whole D.machine host.old (D.state host_device.old) self.old.host)) }
+        ensures direct { ◌≡◌ {A = ℕ × World D.machine}
+            (result.direct.count, whole D.machine direct.new (D.state direct_device.new) self.new.direct)
+            (advanced D.machine format_zero limit (whole D.machine direct.old (D.state direct_device.old) self.old.direct)) }
         ensures ended { (result.host.ended ≡ is_ended self.new.host) × (result.direct.ended ≡ is_ended self.new.direct) }
-        ensures agree { AdvancesAgree machine (frames map.now) (free map.now) }
-        ensures unchecked { NeverChecked machine (frames map.now) (free map.now) }
-        ensures keep { StepsKeep machine (frames map.now) (free map.now) }
-        ensures together { Together machine (frames map.now) (free map.now)
-            (whole machine host.old (state host_device.old) self.old.host)
-            (whole machine direct.old (state direct_device.old) self.old.direct)
-            (whole machine host.new (state host_device.new) self.new.host)
-            (whole machine direct.new (state direct_device.new) self.new.direct) }
+        ensures agree { AdvancesAgree D.machine (M.frames map.now) (M.free map.now) }
+        ensures unchecked { NeverChecked D.machine (M.frames map.now) (M.free map.now) }
+        ensures keep { StepsKeep D.machine (M.frames map.now) (M.free map.now) }
+        ensures together { Together D.machine (M.frames map.now) (M.free map.now)
+            (whole D.machine host.old (D.state host_device.old) self.old.host)
+            (whole D.machine direct.old (D.state direct_device.old) self.old.direct)
+            (whole D.machine host.new (D.state host_device.new) self.new.host)
+            (whole D.machine direct.new (D.state direct_device.new) self.new.direct) }
     {
         self.advance_sides(host, host_device, direct, direct_device, limit)
     }
 
     fn halt_sides<D: Device>(&mut self, host_device: &mut D, direct_device: &mut D)
-        ensures host { (storage : List ℕ) → whole machine storage (state host_device.new) self.new.host
-            ≡ halted machine (whole machine storage (state host_device.old) self.old.host) }
-        ensures direct { (storage : List ℕ) → whole machine storage (state direct_device.new) self.new.direct
-            ≡ halted machine (whole machine storage (state direct_device.old) self.old.direct) }
+        ensures host { (storage : List ℕ) → whole D.machine storage (D.state host_device.new) self.new.host
+            ≡ halted D.machine (whole D.machine storage (D.state host_device.old) self.old.host) }
+        ensures direct { (storage : List ℕ) → whole D.machine storage (D.state direct_device.new) self.new.direct
+            ≡ halted D.machine (whole D.machine storage (D.state direct_device.old) self.old.direct) }
     {
         let mut on_host = Program {
             format: Format::One,
@@ -179,16 +179,16 @@ impl Twin {
 
     // Ends both runs if they have not ended; storage stays.
     pub fn halt<M: Map, D: Device>(&mut self, map: &M, host_device: &mut D, direct_device: &mut D)
-        ensures host { (storage : List ℕ) → whole machine storage (state host_device.new) self.new.host
-            ≡ halted machine (whole machine storage (state host_device.old) self.old.host) }
-        ensures direct { (storage : List ℕ) → whole machine storage (state direct_device.new) self.new.direct
-            ≡ halted machine (whole machine storage (state direct_device.old) self.old.direct) }
-        ensures agree { HaltsAgree machine (frames map.now) (free map.now) }
-        ensures together { (host direct : List ℕ) → Together machine (frames map.now) (free map.now)
-            (whole machine host (state host_device.old) self.old.host)
-            (whole machine direct (state direct_device.old) self.old.direct)
-            (whole machine host (state host_device.new) self.new.host)
-            (whole machine direct (state direct_device.new) self.new.direct) }
+        ensures host { (storage : List ℕ) → whole D.machine storage (D.state host_device.new) self.new.host
+            ≡ halted D.machine (whole D.machine storage (D.state host_device.old) self.old.host) }
+        ensures direct { (storage : List ℕ) → whole D.machine storage (D.state direct_device.new) self.new.direct
+            ≡ halted D.machine (whole D.machine storage (D.state direct_device.old) self.old.direct) }
+        ensures agree { HaltsAgree D.machine (M.frames map.now) (M.free map.now) }
+        ensures together { (host direct : List ℕ) → Together D.machine (M.frames map.now) (M.free map.now)
+            (whole D.machine host (D.state host_device.old) self.old.host)
+            (whole D.machine direct (D.state direct_device.old) self.old.direct)
+            (whole D.machine host (D.state host_device.new) self.new.host)
+            (whole D.machine direct (D.state direct_device.new) self.new.direct) }
     {
         self.halt_sides(host_device, direct_device);
     }

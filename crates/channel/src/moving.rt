@@ -13,9 +13,9 @@ const BLOCK: usize = 2048;
 // One piece upward, straight into storage.
 fn read_upward<D: Device>(storage: &mut [u8], first: usize, size: usize, device: &mut D) -> usize
     requires { first + size ≤ length storage.old }
-    ensures moved { result ≡ min size (length (due (machine.pending (state device.old)))) }
-    ensures bytes { storage.new ≡ lay (addresses false first size) (due (machine.pending (state device.old))) storage.old }
-    ensures became { state device.new ≡ machine.given size (state device.old) }
+    ensures moved { result ≡ min size (length (due (D.machine.pending (D.state device.old)))) }
+    ensures bytes { storage.new ≡ lay (addresses false first size) (due (D.machine.pending (D.state device.old))) storage.old }
+    ensures became { D.state device.new ≡ D.machine.given size (D.state device.old) }
 {
     device.give(&mut storage[first..first + size])
 }
@@ -38,9 +38,9 @@ fn read_through<D: Device>(
     device: &mut D,
 ) -> usize
     requires { (first < length storage.old) × (length scratch.old ≤ first + 1) }
-    ensures moved { result ≡ min (length scratch.old) (length (due (machine.pending (state device.old)))) }
-    ensures bytes { storage.new ≡ lay (addresses true first (length scratch.old)) (due (machine.pending (state device.old))) storage.old }
-    ensures became { state device.new ≡ machine.given (length scratch.old) (state device.old) }
+    ensures moved { result ≡ min (length scratch.old) (length (due (D.machine.pending (D.state device.old)))) }
+    ensures bytes { storage.new ≡ lay (addresses true first (length scratch.old)) (due (D.machine.pending (D.state device.old))) storage.old }
+    ensures became { D.state device.new ≡ D.machine.given (length scratch.old) (D.state device.old) }
 {
     let size = scratch.len();
     let got = device.give(scratch);
@@ -50,9 +50,9 @@ fn read_through<D: Device>(
 
 fn read_downward<D: Device>(storage: &mut [u8], first: usize, size: usize, device: &mut D) -> usize
     requires { (first < length storage.old) × ((size ≤ first + 1) × (size ≤ 2048)) }
-    ensures moved { result ≡ min size (length (due (machine.pending (state device.old)))) }
-    ensures bytes { storage.new ≡ lay (addresses true first size) (due (machine.pending (state device.old))) storage.old }
-    ensures became { state device.new ≡ machine.given size (state device.old) }
+    ensures moved { result ≡ min size (length (due (D.machine.pending (D.state device.old)))) }
+    ensures bytes { storage.new ≡ lay (addresses true first size) (due (D.machine.pending (D.state device.old))) storage.old }
+    ensures became { D.state device.new ≡ D.machine.given size (D.state device.old) }
 {
     let mut scratch = [0u8; BLOCK];
     read_through(storage, first, &mut scratch[..size], device)
@@ -60,9 +60,9 @@ fn read_downward<D: Device>(storage: &mut [u8], first: usize, size: usize, devic
 
 fn read_piece<D: Device>(storage: &mut [u8], backward: bool, piece: Piece, device: &mut D) -> usize
     requires { (outside backward (length storage.old) piece.first piece.size ≡ false) × (piece.size ≤ 2048) }
-    ensures moved { result ≡ min piece.size (length (due (machine.pending (state device.old)))) }
-    ensures bytes { storage.new ≡ lay (addresses backward piece.first piece.size) (due (machine.pending (state device.old))) storage.old }
-    ensures became { state device.new ≡ machine.given piece.size (state device.old) }
+    ensures moved { result ≡ min piece.size (length (due (D.machine.pending (D.state device.old)))) }
+    ensures bytes { storage.new ≡ lay (addresses backward piece.first piece.size) (due (D.machine.pending (D.state device.old))) storage.old }
+    ensures became { D.state device.new ≡ D.machine.given piece.size (D.state device.old) }
 {
     if backward {
         read_downward(storage, piece.first, piece.size, device)
@@ -80,9 +80,9 @@ pub(crate) fn read_pieces<D: Device>(
     device: &mut D,
 ) -> usize
     requires { Shaped backward (length storage.old) false count (listed pieces.now) }
-    ensures moved { result ≡ min (sizes (listed pieces.now)) (length (due (machine.pending (state device.old)))) }
-    ensures bytes { storage.new ≡ lay (area backward (listed pieces.now)) (due (machine.pending (state device.old))) storage.old }
-    ensures became { state device.new ≡ machine.given (sizes (listed pieces.now)) (state device.old) }
+    ensures moved { result ≡ min (sizes (listed pieces.now)) (length (due (D.machine.pending (D.state device.old)))) }
+    ensures bytes { storage.new ≡ lay (area backward (listed pieces.now)) (due (D.machine.pending (D.state device.old))) storage.old }
+    ensures became { D.state device.new ≡ D.machine.given (sizes (listed pieces.now)) (D.state device.old) }
 {
     let mut moved = 0;
     for i in 0..pieces.len {
@@ -93,8 +93,8 @@ pub(crate) fn read_pieces<D: Device>(
 
 fn write_piece<D: Device>(storage: &[u8], first: usize, size: usize, device: &mut D) -> usize
     requires { first + size ≤ length storage.now }
-    ensures moved { result ≡ min size (room (machine.pending (state device.old))) }
-    ensures became { state device.new ≡ machine.taken (map (reader storage.now) (addresses false first size)) (state device.old) }
+    ensures moved { result ≡ min size (room (D.machine.pending (D.state device.old))) }
+    ensures became { D.state device.new ≡ D.machine.taken (map (reader storage.now) (addresses false first size)) (D.state device.old) }
 {
     device.take(&storage[first..first + size])
 }
@@ -107,8 +107,8 @@ pub(crate) fn write_pieces<D: Device>(
     device: &mut D,
 ) -> usize
     requires { Shaped false (length storage.now) false count (listed pieces.now) }
-    ensures moved { result ≡ min (sizes (listed pieces.now)) (room (machine.pending (state device.old))) }
-    ensures became { state device.new ≡ machine.taken (map (reader storage.now) (area false (listed pieces.now))) (state device.old) }
+    ensures moved { result ≡ min (sizes (listed pieces.now)) (room (D.machine.pending (D.state device.old))) }
+    ensures became { D.state device.new ≡ D.machine.taken (map (reader storage.now) (area false (listed pieces.now))) (D.state device.old) }
 {
     let mut moved = 0;
     for i in 0..pieces.len {

@@ -26,9 +26,9 @@ const PROGRAM_CHECK: u8 = 0x20;
 // A reading CCW without SKIP.
 fn read_area<D: Device>(storage: &mut [u8], taken: &Taken, device: &mut D) -> usize
     requires { Sound (reach storage.old) (cell_of taken.now) }
-    ensures count { result ≡ length (front taken.now.ccw.value.count (due (machine.pending (state device.old)))) }
-    ensures bytes { storage.new ≡ lay (addresses_of (cell_of taken.now)) (front taken.now.ccw.value.count (due (machine.pending (state device.old)))) storage.old }
-    ensures became { state device.new ≡ machine.given taken.now.ccw.value.count (state device.old) }
+    ensures count { result ≡ length (front taken.now.ccw.value.count (due (D.machine.pending (D.state device.old)))) }
+    ensures bytes { storage.new ≡ lay (addresses_of (cell_of taken.now)) (front taken.now.ccw.value.count (due (D.machine.pending (D.state device.old)))) storage.old }
+    ensures became { D.state device.new ≡ D.machine.given taken.now.ccw.value.count (D.state device.old) }
     ensures bounded { result ≤ taken.now.ccw.value.count }
 {
     read_pieces(
@@ -42,8 +42,8 @@ fn read_area<D: Device>(storage: &mut [u8], taken: &Taken, device: &mut D) -> us
 
 // A reading CCW with SKIP.
 fn skip_area<D: Device>(taken: &Taken, device: &mut D) -> usize
-    ensures count { result ≡ length (front taken.now.ccw.value.count (due (machine.pending (state device.old)))) }
-    ensures became { state device.new ≡ machine.given taken.now.ccw.value.count (state device.old) }
+    ensures count { result ≡ length (front taken.now.ccw.value.count (due (D.machine.pending (D.state device.old)))) }
+    ensures became { D.state device.new ≡ D.machine.given taken.now.ccw.value.count (D.state device.old) }
     ensures bounded { result ≤ taken.now.ccw.value.count }
 {
     skip(taken.ccw.value.count as usize, device)
@@ -52,8 +52,8 @@ fn skip_area<D: Device>(taken: &Taken, device: &mut D) -> usize
 // A writing CCW.
 fn write_area<D: Device>(storage: &[u8], taken: &Taken, device: &mut D) -> usize
     requires { (Sound (reach storage.now) (cell_of taken.now)) × (reading taken.now.code ≡ false) }
-    ensures count { result ≡ min (length (gathered (cell_of taken.now) storage.now)) (room (machine.pending (state device.old))) }
-    ensures became { state device.new ≡ machine.taken (gathered (cell_of taken.now) storage.now) (state device.old) }
+    ensures count { result ≡ min (length (gathered (cell_of taken.now) storage.now)) (room (D.machine.pending (D.state device.old))) }
+    ensures became { D.state device.new ≡ D.machine.taken (gathered (cell_of taken.now) storage.now) (D.state device.old) }
     ensures bounded { result ≤ taken.now.ccw.value.count }
 {
     write_pieces(storage, &taken.pieces, taken.ccw.value.count, device)
@@ -68,9 +68,9 @@ fn reads(code: u8) -> bool
 // Moves the bytes of one CCW, and answers how many.
 fn move_area<D: Device>(storage: &mut [u8], taken: &Taken, device: &mut D) -> usize
     requires { Sound (reach storage.old) (cell_of taken.now) }
-    ensures count { result ≡ moved_count machine (cell_of taken.now) (gathered (cell_of taken.now) storage.old) (state device.old) }
-    ensures bytes { storage.new ≡ lay (addresses_of (cell_of taken.now)) (moved_bytes machine (cell_of taken.now) (state device.old)) storage.old }
-    ensures became { state device.new ≡ moved_state machine (cell_of taken.now) (gathered (cell_of taken.now) storage.old) (state device.old) }
+    ensures count { result ≡ moved_count D.machine (cell_of taken.now) (gathered (cell_of taken.now) storage.old) (D.state device.old) }
+    ensures bytes { storage.new ≡ lay (addresses_of (cell_of taken.now)) (moved_bytes D.machine (cell_of taken.now) (D.state device.old)) storage.old }
+    ensures became { D.state device.new ≡ moved_state D.machine (cell_of taken.now) (gathered (cell_of taken.now) storage.old) (D.state device.old) }
     ensures bounded { result ≤ taken.now.ccw.value.count }
 {
     if !reads(taken.code) {
@@ -99,8 +99,8 @@ fn finish(ccw: Ccw, status: u8, residual: u16, incorrect: bool) -> Next
 // What follows a move of `moved` bytes.
 fn settle<D: Device>(ccw: Ccw, owed: u32, moved: usize, device: &mut D) -> Next
     requires { moved ≤ ccw.count }
-    ensures next { (bytes : List ℕ) → result ≡ (settled machine ccw owed moved bytes (state device.old)).next }
-    ensures became { (bytes : List ℕ) → state device.new ≡ (settled machine ccw owed moved bytes (state device.old)).state }
+    ensures next { (bytes : List ℕ) → result ≡ (settled D.machine ccw owed moved bytes (D.state device.old)).next }
+    ensures became { (bytes : List ℕ) → D.state device.new ≡ (settled D.machine ccw owed moved bytes (D.state device.old)).state }
 {
     let still = owed.saturating_sub(moved as u32);
     let residual = ccw.count - moved as u16;
@@ -115,9 +115,9 @@ fn settle<D: Device>(ccw: Ccw, owed: u32, moved: usize, device: &mut D) -> Next
 // The move of an open command and what follows it.
 fn move_and_settle<D: Device>(storage: &mut [u8], taken: &Taken, owed: u32, device: &mut D) -> Next
     requires { Sound (reach storage.old) (cell_of taken.now) }
-    ensures next { result ≡ (moved_whole machine (cell_of taken.now) owed (gathered (cell_of taken.now) storage.old) (state device.old)).next }
-    ensures bytes { storage.new ≡ lay (addresses_of (cell_of taken.now)) (moved_whole machine (cell_of taken.now) owed (gathered (cell_of taken.now) storage.old) (state device.old)).stored storage.old }
-    ensures became { state device.new ≡ (moved_whole machine (cell_of taken.now) owed (gathered (cell_of taken.now) storage.old) (state device.old)).state }
+    ensures next { result ≡ (moved_whole D.machine (cell_of taken.now) owed (gathered (cell_of taken.now) storage.old) (D.state device.old)).next }
+    ensures bytes { storage.new ≡ lay (addresses_of (cell_of taken.now)) (moved_whole D.machine (cell_of taken.now) owed (gathered (cell_of taken.now) storage.old) (D.state device.old)).stored storage.old }
+    ensures became { D.state device.new ≡ (moved_whole D.machine (cell_of taken.now) owed (gathered (cell_of taken.now) storage.old) (D.state device.old)).state }
 {
     let moved = move_area(storage, taken, device);
     settle(taken.ccw.value, owed, moved, device)
@@ -126,9 +126,9 @@ fn move_and_settle<D: Device>(storage: &mut [u8], taken: &Taken, owed: u32, devi
 // One CCW that was taken up.
 fn run_ccw<D: Device>(storage: &mut [u8], taken: &Taken, owed: u32, device: &mut D) -> Next
     requires { Sound (reach storage.old) (cell_of taken.now) }
-    ensures next { result ≡ (done machine (cell_of taken.now) owed (gathered (cell_of taken.now) storage.old) (state device.old)).next }
-    ensures bytes { storage.new ≡ lay (addresses_of (cell_of taken.now)) (done machine (cell_of taken.now) owed (gathered (cell_of taken.now) storage.old) (state device.old)).stored storage.old }
-    ensures became { state device.new ≡ (done machine (cell_of taken.now) owed (gathered (cell_of taken.now) storage.old) (state device.old)).state }
+    ensures next { result ≡ (done D.machine (cell_of taken.now) owed (gathered (cell_of taken.now) storage.old) (D.state device.old)).next }
+    ensures bytes { storage.new ≡ lay (addresses_of (cell_of taken.now)) (done D.machine (cell_of taken.now) owed (gathered (cell_of taken.now) storage.old) (D.state device.old)).stored storage.old }
+    ensures became { D.state device.new ≡ (done D.machine (cell_of taken.now) owed (gathered (cell_of taken.now) storage.old) (D.state device.old)).state }
 {
     match taken.before {
         Some(_) => move_and_settle(storage, taken, owed, device),
@@ -186,8 +186,8 @@ fn go_on(address: u32, code: u8, next: Next) -> Run
 
 // Ends a command that this program began, and answers its status, 00 if there is none.
 pub fn close<D: Device>(command: Option<u8>, device: &mut D) -> u8
-    ensures answer { result ≡ (closed machine command (state device.old)).0 }
-    ensures became { state device.new ≡ (closed machine command (state device.old)).1 }
+    ensures answer { result ≡ (closed D.machine command (D.state device.old)).0 }
+    ensures became { D.state device.new ≡ (closed D.machine command (D.state device.old)).1 }
 {
     match command {
         Some(_) => device.end(),
@@ -197,8 +197,8 @@ pub fn close<D: Device>(command: Option<u8>, device: &mut D) -> u8
 
 // A program check, counted from the CCW or TIC that was being taken up.
 fn check_program<D: Device>(command: Option<u8>, ccw: u32, device: &mut D) -> Run
-    ensures run { result ≡ (checked machine command ccw [] (state device.old)).run }
-    ensures became { state device.new ≡ (checked machine command ccw [] (state device.old)).state }
+    ensures run { result ≡ (checked D.machine command ccw [] (D.state device.old)).run }
+    ensures became { D.state device.new ≡ (checked D.machine command ccw [] (D.state device.old)).state }
 {
     let status = StatusWord {
         ccw_address: ccw.wrapping_add(8),
@@ -211,9 +211,9 @@ fn check_program<D: Device>(command: Option<u8>, ccw: u32, device: &mut D) -> Ru
 
 // One step of a run.
 pub fn step_run<D: Device>(storage: &mut [u8], format: Format, run: Run, device: &mut D) -> Run
-    ensures run { result ≡ (stepped_from machine format storage.old (state device.old) run).run }
-    ensures bytes { storage.new ≡ (stepped_from machine format storage.old (state device.old) run).storage }
-    ensures became { state device.new ≡ (stepped_from machine format storage.old (state device.old) run).state }
+    ensures run { result ≡ (stepped_from D.machine format storage.old (D.state device.old) run).run }
+    ensures bytes { storage.new ≡ (stepped_from D.machine format storage.old (D.state device.old) run).storage }
+    ensures became { D.state device.new ≡ (stepped_from D.machine format storage.old (D.state device.old) run).state }
 {
     let Run::Running { place, owed } = run else {
         return run;

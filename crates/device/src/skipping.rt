@@ -10,8 +10,8 @@ const SCRATCH: usize = 2048;
 
 fn skip_block<D: Device>(size: usize, device: &mut D) -> usize
     requires { size ≤ 2048 }
-    ensures moved { result ≡ min size (length (due (machine.pending (state device.old)))) }
-    ensures became { state device.new ≡ machine.given size (state device.old) }
+    ensures moved { result ≡ min size (length (due (D.machine.pending (D.state device.old)))) }
+    ensures became { D.state device.new ≡ D.machine.given size (D.state device.old) }
 {
     let mut scratch = [0u8; SCRATCH];
     device.give(&mut scratch[..size])
@@ -19,9 +19,9 @@ fn skip_block<D: Device>(size: usize, device: &mut D) -> usize
 
 // Has the device give that many bytes, block by block, and stores none of them.
 pub fn skip<D: Device>(count: usize, device: &mut D) -> usize
-    ensures moved { result ≡ min count (length (due (machine.pending (state device.old)))) }
-    ensures became { state device.new ≡ machine.given count (state device.old) }
-    ensures parts { PartsAreOneMove machine }
+    ensures moved { result ≡ min count (length (due (D.machine.pending (D.state device.old)))) }
+    ensures became { D.state device.new ≡ D.machine.given count (D.state device.old) }
+    ensures parts { PartsAreOneMove D.machine }
 {
     let mut left = count;
     let mut moved = 0;

@@ -1,4 +1,5 @@
 // What a program does with a disk: blocks are located, written, and read back.
+#![tactic(auto)]
 
 ghost use Rattle.std.specs.Prelude.{◌≡◌, ℕ, min, true, [], ◌∷◌, ◌++◌, length, take, drop, if◌then◌else◌, Some};
 ghost use Rattle.disk.specs.Blocks.{block_at, range_exists, size_of};

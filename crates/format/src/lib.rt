@@ -1,5 +1,6 @@
 // What stands in storage and in answers: CCWs of both formats, their flags and command classes,
 // Nothing here knows of devices, channels or guests.
+#![tactic(auto)]
 
 pub mod big_endian;
 pub mod ccw;

@@ -1,6 +1,7 @@
 // Runs channel programs with CCWs of format 0 on the channel itself. It prints what each CCW did, how each
 // program ended, how the device stands and what changed in storage. First come programs on a console, then
 // some that are halted, a damaged one for each rule, and programs on a tape and on a disk.
+#![tactic(auto)]
 
 mod ebcdic;
 mod job;

@@ -16,8 +16,8 @@ fn in_page(page: u32, address: u32) -> u32
 // The page that has a frame, if one does.
 fn page_of<M: Map>(map: &M, frame: u32) -> Option<usize>
     ensures { MatchOption result
-        ((k : ℕ) → k < length (frames map.now) → slice_index (frames map.now) k ≢ frame)
-        (λ page. (page < length (frames map.now)) × (slice_index (frames map.now) page ≡ frame)) }
+        ((k : ℕ) → k < length (M.frames map.now) → slice_index (M.frames map.now) k ≢ frame)
+        (λ page. (page < length (M.frames map.now)) × (slice_index (M.frames map.now) page ≡ frame)) }
 {
     for page in 0..map.page_count() {
         if map.frame_of(page) as u32 == frame {
@@ -30,9 +30,9 @@ fn page_of<M: Map>(map: &M, frame: u32) -> Option<usize>
 // The host address at which a guest address lies.
 pub fn place<M: Map>(map: &M, address: GuestAddress) -> Result<HostAddress, Refusal>
     ensures answer { MatchResult result
-        (λ host. LiesAt (frames map.now) address.0 host.0)
-        (λ e. (end_of (frames map.now) ≤ address.0) × (e ≡ Refusal.PastGuestEnd address.0)) }
-    ensures alone { IfOk result (λ host. NeverShared (frames map.now) address.0 host.0) }
+        (λ host. LiesAt (M.frames map.now) address.0 host.0)
+        (λ e. (end_of (M.frames map.now) ≤ address.0) × (e ≡ Refusal.PastGuestEnd address.0)) }
+    ensures alone { IfOk result (λ host. NeverShared (M.frames map.now) address.0 host.0) }
     ensures offset { IfOk result (λ host. OffsetKept address.0 host.0) }
 {
     let page = (address.0 / PAGE_SIZE) as usize;
@@ -45,10 +45,10 @@ pub fn place<M: Map>(map: &M, address: GuestAddress) -> Result<HostAddress, Refu
 // The guest address that lies at a host address, if one does.
 pub fn home<M: Map>(map: &M, address: HostAddress) -> Option<GuestAddress>
     ensures answer { MatchOption result
-        (NothingAt (frames map.now) address.0)
-        (λ guest. LiesAt (frames map.now) guest.0 address.0) }
-    ensures place { HomeOfPlace (frames map.now) address.0 result }
-    ensures other { HomeOfOther (frames map.now) address.0 result }
+        (NothingAt (M.frames map.now) address.0)
+        (λ guest. LiesAt (M.frames map.now) guest.0 address.0) }
+    ensures place { HomeOfPlace (M.frames map.now) address.0 result }
+    ensures other { HomeOfOther (M.frames map.now) address.0 result }
 {
     let page = page_of(map, address.0 / PAGE_SIZE)?;
     Some(GuestAddress(in_page(page as u32, address.0)))

@@ -23,9 +23,9 @@ impl<'a, M: Map> GuestView<'a, M> {
     // The byte at a guest address.
     pub fn read(&self, address: GuestAddress) -> Result<u8, Refusal>
         ensures { MatchResult result
-            (λ b. (address.0 < end_of (frames self.now.map.now))
-            × (b ≡ byte_at (frames self.now.map.now) self.now.host.now address.0))
-            (λ e. (end_of (frames self.now.map.now) ≤ address.0) × (e ≡ Refusal.PastGuestEnd address.0)) }
+            (λ b. (address.0 < end_of (M.frames self.now.map.now))
+            × (b ≡ byte_at (M.frames self.now.map.now) self.now.host.now address.0))
+            (λ e. (end_of (M.frames self.now.map.now) ≤ address.0) × (e ≡ Refusal.PastGuestEnd address.0)) }
     {
         let at = place(self.map, address)?;
         let host = Plain { storage: self.host };
@@ -34,27 +34,27 @@ impl<'a, M: Map> GuestView<'a, M> {
 
     // How many bytes the guest has, and which they are.
     fn size(&self) -> usize
-        ensures is { result ≡ end_of (frames self.now.map.now) }
+        ensures is { result ≡ end_of (M.frames self.now.map.now) }
         ensures small { result ≤ 128 * 4096 }
-        ensures bytes { ByPlace (frames self.now.map.now) self.now.host.now
-            (guest_bytes (frames self.now.map.now) self.now.host.now) }
-        ensures past { (address : ℕ) → result ≤ address → slice_index (guest_bytes (frames self.now.map.now) self.now.host.now) address ≡ 0 }
+        ensures bytes { ByPlace (M.frames self.now.map.now) self.now.host.now
+            (guest_bytes (M.frames self.now.map.now) self.now.host.now) }
+        ensures past { (address : ℕ) → result ≤ address → slice_index (guest_bytes (M.frames self.now.map.now) self.now.host.now) address ≡ 0 }
     {
         self.map.page_count() * PAGE_SIZE as usize
     }
 
     // Takes up a place as on the guest's bytes in a row.
     fn take_up_in_place(&self, format: Format, place: Place) -> Result<Taken, Broken>
-        ensures { answered cell_of result ≡ taken_up format (guest_bytes (frames self.now.map.now) self.now.host.now) place }
+        ensures { answered cell_of result ≡ taken_up format (guest_bytes (M.frames self.now.map.now) self.now.host.now) place }
     {
         take_up(self, format, place)
     }
 
     // Takes up a place of the guest's program where it lies.
     pub fn take_up(&self, format: Format, place: Place) -> Result<Taken, Broken>
-        ensures bytes { ByPlace (frames self.now.map.now) self.now.host.now
-            (guest_bytes (frames self.now.map.now) self.now.host.now) }
-        ensures answer { AsOnACopy (frames self.now.map.now) self.now.host.now format place result }
+        ensures bytes { ByPlace (M.frames self.now.map.now) self.now.host.now
+            (guest_bytes (M.frames self.now.map.now) self.now.host.now) }
+        ensures answer { AsOnACopy (M.frames self.now.map.now) self.now.host.now format place result }
     {
         self.take_up_in_place(format, place)
     }

@@ -1,5 +1,6 @@
 // A channel program under way on the channel: started, stepped, run for up to k CCWs, halted, and asked for its
 // status word.
+#![tactic(auto)]
 
 ghost use Rattle.std.specs.Prelude.{◌≡◌, ℕ, not, ◌&&◌, List, nat_lt};
 ghost use Rattle.device.specs.Machine.{Machine};
@@ -45,9 +46,9 @@ impl Program {
     // One CCW. A program that has ended stays as it is.
     pub fn step<D: Device>(&mut self, storage: &mut [u8], device: &mut D)
         ensures format { self.new.format ≡ self.old.format }
-        ensures world { ◌≡◌ {A = World machine}
-            (record { storage = storage.exit.now; state = state device.new; run = self.new.run })
-            (stepped machine self.old.format (record { storage = storage.entry.now; state = state device.old; run = self.old.run })) }
+        ensures world { ◌≡◌ {A = World D.machine}
+            (record { storage = storage.new; state = D.state device.new; run = self.new.run })
+            (stepped D.machine self.old.format (record { storage = storage.old; state = D.state device.old; run = self.old.run })) }
         ensures area { ChangesOnlyArea self.old.format self.old.run storage.old storage.new }
     {
         self.step_once(storage, device);
@@ -55,9 +56,9 @@ impl Program {
 
     fn step_once<D: Device>(&mut self, storage: &mut [u8], device: &mut D)
         ensures format { self.new.format ≡ self.old.format }
-        ensures world { ◌≡◌ {A = World machine}
-            (record { storage = storage.exit.now; state = state device.new; run = self.new.run })
-            (stepped machine self.old.format (record { storage = storage.entry.now; state = state device.old; run = self.old.run })) }
+        ensures world { ◌≡◌ {A = World D.machine}
+            (record { storage = storage.new; state = D.state device.new; run = self.new.run })
+            (stepped D.machine self.old.format (record { storage = storage.old; state = D.state device.old; run = self.old.run })) }
     {
         self.run = step_run(storage, self.format, self.run, device);
     }
@@ -81,14 +82,14 @@ impl Program {
     // Up to `limit` CCWs, or fewer if the program ends.
     pub fn advance<D: Device>(&mut self, storage: &mut [u8], device: &mut D, limit: u64) -> Progress
         ensures format { self.new.format ≡ self.old.format }
-        ensures world { ◌≡◌ {A = ℕ × World machine}
-            (result.count, record { storage = storage.exit.now; state = state device.new; run = self.new.run })
-            (advanced machine self.old.format limit (record { storage = storage.entry.now; state = state device.old; run = self.old.run })) }
+        ensures world { ◌≡◌ {A = ℕ × World D.machine}
+            (result.count, record { storage = storage.new; state = D.state device.new; run = self.new.run })
+            (advanced D.machine self.old.format limit (record { storage = storage.old; state = D.state device.old; run = self.old.run })) }
         ensures ended { result.ended ≡ is_ended self.new.run }
-        ensures counted { Counted machine self.old.format limit
-            (record { storage = storage.entry.now; state = state device.old; run = self.old.run })
+        ensures counted { Counted D.machine self.old.format limit
+            (record { storage = storage.old; state = D.state device.old; run = self.old.run })
             result.count
-            (record { storage = storage.exit.now; state = state device.new; run = self.new.run }) }
+            (record { storage = storage.new; state = D.state device.new; run = self.new.run }) }
     {
         let mut count = 0;
         while self.goes_on(count, limit) {
@@ -104,9 +105,9 @@ impl Program {
     // Ends a program that is still running.
     pub fn halt<D: Device>(&mut self, device: &mut D)
         ensures format { self.new.format ≡ self.old.format }
-        ensures world { (storage : List ℕ) → ◌≡◌ {A = World machine}
-            (record { storage = storage; state = state device.new; run = self.new.run })
-            (halted machine (record { storage = storage; state = state device.old; run = self.old.run })) }
+        ensures world { (storage : List ℕ) → ◌≡◌ {A = World D.machine}
+            (record { storage = storage; state = D.state device.new; run = self.new.run })
+            (halted D.machine (record { storage = storage; state = D.state device.old; run = self.old.run })) }
     {
         if let Run::Running { place, owed: _ } = self.run {
             let status = StatusWord {

@@ -1,6 +1,7 @@
 // Checks taking up a place against a table of rules 1 to 10. For each rule the table has places that
 // keep it and near neighbours that break it, in both formats, each with the answer that the rule
 // demands. The program prints a line for each row and ends with status 1 if any answer is another one.
+#![tactic(auto)]
 
 mod answer;
 mod row;

@@ -146,7 +146,7 @@ fn check_word<S: Storage>(
     left: usize,
 ) -> Result<Piece, Broken>
     requires { left ≤ 2 ^ 16 }
-    ensures { result ≡ one_word backward (reach (bytes storage.now)) (reader (bytes storage.now)) ccw later at left }
+    ensures { result ≡ one_word backward (reach (S.bytes storage.now)) (reader (S.bytes storage.now)) ccw later at left }
 {
     let limit = addressable(storage);
     if limit < at as usize + WORD as usize {
@@ -168,8 +168,8 @@ fn word_piece<S: Storage>(
     left: usize,
 ) -> Result<Piece, Broken>
     requires { (0 < left) × (left ≤ 2 ^ 16) }
-    ensures is { result ≡ one_word backward (reach (bytes storage.now)) (reader (bytes storage.now)) ccw later at left }
-    ensures size { IfOk result (λ p. (0 < p.size) × (p.size ≤ left) × (later ≡ true → p.size ≡ min left 2048) × (at + 4 ≤ reach (bytes storage.now))) }
+    ensures is { result ≡ one_word backward (reach (S.bytes storage.now)) (reader (S.bytes storage.now)) ccw later at left }
+    ensures size { IfOk result (λ p. (0 < p.size) × (p.size ≤ left) × (later ≡ true → p.size ≡ min left 2048) × (at + 4 ≤ reach (S.bytes storage.now))) }
 {
     check_word(storage, backward, ccw, later, at, left)
 }
@@ -181,7 +181,7 @@ fn word_pieces<S: Storage>(
     list: u32,
     count: u16,
 ) -> Result<Pieces, Broken>
-    ensures { answered listed result ≡ by_words backward (reach (bytes storage.now)) (reader (bytes storage.now)) ccw count false list count }
+    ensures { answered listed result ≡ by_words backward (reach (S.bytes storage.now)) (reader (S.bytes storage.now)) ccw count false list count }
 {
     let mut pieces = no_pieces();
     let mut later = false;
@@ -203,7 +203,7 @@ pub(crate) fn area_pieces<S: Storage>(
     ccw: Placed<Ccw>,
     backward: bool,
 ) -> Result<Pieces, Broken>
-    ensures { answered listed result ≡ pieces_of (reach (bytes storage.now)) (reader (bytes storage.now)) ccw.address ccw.value backward ccw.value.flags.ida }
+    ensures { answered listed result ≡ pieces_of (reach (S.bytes storage.now)) (reader (S.bytes storage.now)) ccw.address ccw.value backward ccw.value.flags.ida }
 {
     let address = ccw.value.address;
     let count = ccw.value.count;

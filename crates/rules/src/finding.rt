@@ -31,7 +31,7 @@ fn check_address(limit: usize, address: u32) -> Result<(), Broken>
 
 // Whether a code with the low half of a TIC stands there.
 fn transfers<S: Storage>(storage: &S, format: Format, address: u32) -> bool
-    ensures { result ≡ transfer_at format (reader (bytes storage.now)) address }
+    ensures { result ≡ transfer_at format (reader (S.bytes storage.now)) address }
 {
     match Class::of(read_ccw(storage, format, address).value.code) {
         Class::TransferInChannel => true,
@@ -46,7 +46,7 @@ fn check_transfer<S: Storage>(
     address: u32,
     barred: bool,
 ) -> Result<(), Broken>
-    ensures { (rest : Outcome ℕ Fault) → past result rest ≡ transfer_rules format (reader (bytes storage.now)) address barred rest }
+    ensures { (rest : Outcome ℕ Fault) → past result rest ≡ transfer_rules format (reader (S.bytes storage.now)) address barred rest }
 {
     match format {
         Format::Zero => {
@@ -85,7 +85,7 @@ fn check_transfer<S: Storage>(
 
 // Rules 1 to 3 at the target of a TIC.
 fn reach_target<S: Storage>(storage: &S, format: Format, address: u32) -> Result<u32, Broken>
-    ensures { result ≡ target format (reach (bytes storage.now)) (reader (bytes storage.now)) address }
+    ensures { result ≡ target format (reach (S.bytes storage.now)) (reader (S.bytes storage.now)) address }
 {
     check_address(addressable(storage), address)?;
     if transfers(storage, format, address) {
@@ -96,7 +96,7 @@ fn reach_target<S: Storage>(storage: &S, format: Format, address: u32) -> Result
 
 // Rules 1 to 3: the address of the CCW that a place leads to, through at most one TIC.
 pub fn find_ccw<S: Storage>(storage: &S, format: Format, place: Place) -> Result<u32, Broken>
-    ensures { result ≡ found format (reach (bytes storage.now)) (reader (bytes storage.now)) place.address place.first }
+    ensures { result ≡ found format (reach (S.bytes storage.now)) (reader (S.bytes storage.now)) place.address place.first }
 {
     let address = place.address;
     check_address(addressable(storage), address)?;

@@ -1,5 +1,6 @@
 // Taking up a place of a channel program: rules 1 to 10, for both formats, over any readable storage.
 // The walk of the translator and the channel both go by this one crate.
+#![tactic(auto)]
 
 pub mod area;
 pub mod finding;

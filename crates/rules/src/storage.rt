@@ -42,14 +42,14 @@ impl<'a> Storage for Plain<'a> {
 
 // How many bytes can be addressed.
 pub(crate) fn addressable<S: Storage>(storage: &S) -> usize
-    ensures { result ≡ reach (bytes storage.now) }
+    ensures { result ≡ reach (S.bytes storage.now) }
 {
     storage.len().min(0x8000_0000)
 }
 
 // The CCW at an address.
 pub(crate) fn read_ccw<S: Storage>(storage: &S, format: Format, address: u32) -> Placed<Ccw>
-    ensures value { result.value ≡ ccw_at format (reader (bytes storage.now)) address }
+    ensures value { result.value ≡ ccw_at format (reader (S.bytes storage.now)) address }
     ensures place { result.address ≡ address }
 {
     let a = address as usize;
@@ -71,7 +71,7 @@ pub(crate) fn read_ccw<S: Storage>(storage: &S, format: Format, address: u32) ->
 
 // The indirect word at an address.
 pub(crate) fn read_word<S: Storage>(storage: &S, address: u32) -> Placed<u32>
-    ensures value { result.value ≡ word_at (reader (bytes storage.now)) address }
+    ensures value { result.value ≡ word_at (reader (S.bytes storage.now)) address }
     ensures place { result.address ≡ address }
 {
     let a = address as usize;

@@ -35,7 +35,7 @@ pub fn read_up<S: Storage>(
     address: u32,
     command: Option<u8>,
 ) -> Result<Taken, Broken>
-    ensures { answered cell_of result ≡ read_up format (reach (bytes storage.now)) (reader (bytes storage.now)) address command }
+    ensures { answered cell_of result ≡ read_up format (reach (S.bytes storage.now)) (reader (S.bytes storage.now)) address command }
 {
     let ccw = read_ccw(storage, format, address);
     if command.is_none() && !is_valid(format, ccw.value.code) {
@@ -67,7 +67,7 @@ pub fn read_up<S: Storage>(
 }
 
 fn find_and_read<S: Storage>(storage: &S, format: Format, place: Place) -> Result<Taken, Broken>
-    ensures { answered cell_of result ≡ taken_up format (bytes storage.now) place }
+    ensures { answered cell_of result ≡ taken_up format (S.bytes storage.now) place }
 {
     let address = find_ccw(storage, format, place)?;
     read_up(storage, format, address, place.command)
@@ -75,8 +75,8 @@ fn find_and_read<S: Storage>(storage: &S, format: Format, place: Place) -> Resul
 
 // Rules 1 to 10.
 pub fn take_up<S: Storage>(storage: &S, format: Format, place: Place) -> Result<Taken, Broken>
-    ensures is { answered cell_of result ≡ taken_up format (bytes storage.now) place }
-    ensures sound { IfOk result (λ t. Sound (reach (bytes storage.now)) (cell_of t)) }
+    ensures is { answered cell_of result ≡ taken_up format (S.bytes storage.now) place }
+    ensures sound { IfOk result (λ t. Sound (reach (S.bytes storage.now)) (cell_of t)) }
 {
     find_and_read(storage, format, place)
 }

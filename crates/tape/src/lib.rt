@@ -1,5 +1,6 @@
 // The tape: a device that keeps blocks of bytes in a row, writes and reads them at a position, reads them
 // backward, rewinds, and reports by a sense byte.
+#![tactic(auto)]
 
 mod reversing;
 pub mod state;

@@ -1,4 +1,5 @@
 // What a program does with a tape: a block is written, and read back forward or backward.
+#![tactic(auto)]
 
 ghost use Rattle.std.specs.Prelude.{◌≡◌, ◌<◌, ◌≤◌, min, ◌++◌, reverse, length, take, drop};
 ghost use Rattle.device.specs.Machine.{shut, room};

@@ -111,15 +111,15 @@ fn write_program(part: &mut [u8], walked: &Walked)
 
 // The word of a guest address that the guest has: its place in the host.
 fn host_word<M: Map>(map: &M, address: GuestAddress) -> u32
-    requires { address.0 < end_of (frames map.now) }
-    ensures { result ≡ place_of (frames map.now) address.0 }
+    requires { address.0 < end_of (M.frames map.now) }
+    ensures { result ≡ place_of (M.frames map.now) address.0 }
 {
     place(map, address).unwrap().0
 }
 
 fn write_list<M: Map>(map: &M, pieces: &Pieces, part: &mut [u8], address: usize)
-    requires { (address + 4 * length (listed pieces.now) ≤ length part.old) × (Below (end_of (frames map.now)) (each first_of (listed pieces.now))) }
-    ensures { part.new ≡ put_at address (words_bytes (each (place_of (frames map.now)) (each first_of (listed pieces.now)))) part.old }
+    requires { (address + 4 * length (listed pieces.now) ≤ length part.old) × (Below (end_of (M.frames map.now)) (each first_of (listed pieces.now))) }
+    ensures { part.new ≡ put_at address (words_bytes (each (place_of (M.frames map.now)) (each first_of (listed pieces.now)))) part.old }
 {
     for i in 0..pieces.len {
         let first = GuestAddress(pieces.items[i].first as u32);
@@ -133,9 +133,9 @@ fn write_list<M: Map>(map: &M, pieces: &Pieces, part: &mut [u8], address: usize)
 
 // Writes the lists one after the other, and answers how many words they have.
 fn write_lists<M: Map>(map: &M, cells: &Cells, part: &mut [u8]) -> usize
-    requires { (4 * length (words_of (cells_of cells.now)) ≤ length part.old) × (Below (end_of (frames map.now)) (words_of (cells_of cells.now))) }
+    requires { (4 * length (words_of (cells_of cells.now)) ≤ length part.old) × (Below (end_of (M.frames map.now)) (words_of (cells_of cells.now))) }
     ensures count { result ≡ length (words_of (cells_of cells.now)) }
-    ensures lists { part.new ≡ put_at 0 (words_bytes (each (place_of (frames map.now)) (words_of (cells_of cells.now)))) part.old }
+    ensures lists { part.new ≡ put_at 0 (words_bytes (each (place_of (M.frames map.now)) (words_of (cells_of cells.now)))) part.old }
 {
     let mut words = 0;
     for i in 0..cells.len {
@@ -154,9 +154,9 @@ fn clear(frame: &mut [u8; FRAME_SIZE])
 
 // Writes the whole frame of an accepted program, and answers how many words it has.
 pub(crate) fn write_frame<M: Map>(map: &M, walked: &Walked, frame: &mut [u8; FRAME_SIZE]) -> usize
-    requires { FitsFrame (end_of (frames map.now)) (trail_of walked.now) }
+    requires { FitsFrame (end_of (M.frames map.now)) (trail_of walked.now) }
     ensures count { result ≡ length (words_of (cells_of walked.now.cells)) }
-    ensures frame { frame.new ≡ frame_of (place_of (frames map.now)) (trail_of walked.now) }
+    ensures frame { frame.new ≡ frame_of (place_of (M.frames map.now)) (trail_of walked.now) }
 {
     clear(frame);
     write_program(&mut frame[..LISTS_START], walked);

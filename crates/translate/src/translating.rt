@@ -21,7 +21,7 @@ fn translate_program<'a, M: Map>(
     kept: &mut Kept,
 ) -> Result<(usize, usize), Refusal>
     ensures { record { answer = result; frame = frame.new; kept = keeping_in kept.new }
-        ≡ translated (frames map.now) host.now start.0 frame.old (keeping_in kept.old) }
+        ≡ translated (M.frames map.now) host.now start.0 frame.old (keeping_in kept.old) }
 {
     let walked = match walk_program(&GuestView { map, host }, start.0) {
         Ok(walked) => walked,
@@ -46,8 +46,8 @@ pub fn translate<'a, M: Map>(
     kept: &mut Kept,
 ) -> Result<(usize, usize), Refusal>
     ensures is { record { answer = result; frame = frame.new; kept = keeping_in kept.new }
-        ≡ translated (frames map.now) host.now start.0 frame.old (keeping_in kept.old) }
-    ensures home { IfOk (accepted (guest_bytes (frames map.now) host.now) start.0) (LeadsHome (frames map.now) frame.new) }
+        ≡ translated (M.frames map.now) host.now start.0 frame.old (keeping_in kept.old) }
+    ensures home { IfOk (accepted (guest_bytes (M.frames map.now) host.now) start.0) (LeadsHome (M.frames map.now) frame.new) }
 {
     translate_program(map, host, start, frame, kept)
 }

@@ -120,7 +120,7 @@ fn look_at<S: Storage>(
     command: Option<u8>,
 ) -> Result<Visit, Broken>
     requires { words ≤ 768 }
-    ensures is { answered seen_of result ≡ look_at (reach (bytes storage.now)) (reader (bytes storage.now)) (cells_of cells.now) words address command }
+    ensures is { answered seen_of result ≡ look_at (reach (S.bytes storage.now)) (reader (S.bytes storage.now)) (cells_of cells.now) words address command }
     ensures fits { IfOk result (Fits cells.now.len words) }
 {
     if let Some(index) = met_before(cells, address, command) {
@@ -149,7 +149,7 @@ fn visit_place<S: Storage>(
     place: Place,
 ) -> Result<Visit, Broken>
     requires { words ≤ 768 }
-    ensures is { answered seen_of result ≡ one_place (reach (bytes storage.now)) (reader (bytes storage.now)) (cells_of cells.now) words place.address place.first place.command }
+    ensures is { answered seen_of result ≡ one_place (reach (S.bytes storage.now)) (reader (S.bytes storage.now)) (cells_of cells.now) words place.address place.first place.command }
     ensures fits { IfOk result (Fits cells.now.len words) }
 {
     let address = find_ccw(storage, Format::Zero, place)?;
@@ -164,7 +164,7 @@ fn visit<S: Storage>(
     place: Place,
 ) -> Result<Visit, Broken>
     requires { words ≤ 768 }
-    ensures is { answered seen_of result ≡ one_place (reach (bytes storage.now)) (reader (bytes storage.now)) (cells_of cells.now) words place.address place.first place.command }
+    ensures is { answered seen_of result ≡ one_place (reach (S.bytes storage.now)) (reader (S.bytes storage.now)) (cells_of cells.now) words place.address place.first place.command }
     ensures fits { IfOk result (Fits cells.now.len words) }
     ensures inside { IfOk result Inside }
 {
@@ -188,7 +188,7 @@ fn command_after(taken: &Taken) -> Option<u8>
 }
 
 fn walk_places<S: Storage>(storage: &S, start: u32) -> Result<Walked, Broken>
-    ensures { answered trail_of result ≡ trail 65 (reach (bytes storage.now)) (reader (bytes storage.now)) [] 0 start true no_command }
+    ensures { answered trail_of result ≡ trail 65 (reach (S.bytes storage.now)) (reader (S.bytes storage.now)) [] 0 start true no_command }
 {
     let mut cells = no_cells();
     let mut words = 0;
@@ -219,9 +219,9 @@ fn walk_places<S: Storage>(storage: &S, start: u32) -> Result<Walked, Broken>
 
 // Walks over the program that starts at an address, on a guest's storage in format 0.
 pub fn walk_program<S: Storage>(storage: &S, start: u32) -> Result<Walked, Broken>
-    ensures is { answered trail_of result ≡ trail 65 (reach (bytes storage.now)) (reader (bytes storage.now)) [] 0 start true no_command }
-    ensures sound { IfOk result (λ w. SoundTrail (reach (bytes storage.now)) (reader (bytes storage.now)) start (trail_of w)) }
-    ensures alone { IfOk result (λ w. OwnBytesAlone (bytes storage.now) start (trail_of w)) }
+    ensures is { answered trail_of result ≡ trail 65 (reach (S.bytes storage.now)) (reader (S.bytes storage.now)) [] 0 start true no_command }
+    ensures sound { IfOk result (λ w. SoundTrail (reach (S.bytes storage.now)) (reader (S.bytes storage.now)) start (trail_of w)) }
+    ensures alone { IfOk result (λ w. OwnBytesAlone (S.bytes storage.now) start (trail_of w)) }
 {
     walk_places(storage, start)
 }

@@ -1,4 +1,5 @@
 // A window on a part of any map, itself a map: a window on a window is one too.
+#![tactic(auto)]
 
 ghost use Rattle.std.specs.Prelude.{◌≡◌, ℕ, ◌+◌, ◌-◌, ◌≤◌, min, length, take, drop, if◌then◌else◌, MatchResult, OnOk, nat_lt, slice_index};
 ghost use Rattle.map.specs.Law.{Lawful, PutDone, PutRefused};
@@ -35,10 +36,10 @@ impl<M: Map> Window<M> {
     // Shows `count` pages of a map, from its page `first` on.
     pub fn new(below: M, first: usize, count: usize) -> Result<Window<M>, WindowRefused<M>>
         ensures answer { MatchResult result
-            (λ w. Inside first count (frames below) × (w.below ≡ below) × (w.span.first ≡ first) × (w.span.count ≡ count)
-            × (start_of first (frames below) ≡ first) × (shown first count (frames below) ≡ take count (drop first (frames below))))
-            (λ e. (Inside first count (frames below) → ⊥) × (e.refusal ≡ Refusal.MapUnlawful) × (e.below ≡ below)) }
-        ensures lawful { OnOk result (Lawful (take count (drop first (frames below))) (free below)) }
+            (λ w. Inside first count (M.frames below) × (w.below ≡ below) × (w.span.first ≡ first) × (w.span.count ≡ count)
+            × (start_of first (M.frames below) ≡ first) × (shown first count (M.frames below) ≡ take count (drop first (M.frames below))))
+            (λ e. (Inside first count (M.frames below) → ⊥) × (e.refusal ≡ Refusal.MapUnlawful) × (e.below ≡ below)) }
+        ensures lawful { OnOk result (Lawful (take count (drop first (M.frames below))) (M.free below)) }
     {
         let pages = below.page_count();
         if count == 0 || first > pages || count > pages - first {
@@ -55,12 +56,12 @@ impl<M: Map> Window<M> {
 
     // The page of the map below that is page 0, and what the window shows from there on.
     fn start(&self) -> usize
-        ensures is { result ≡ start_of self.now.span.first (frames self.now.below) }
-        ensures pages { length (shown self.now.span.first self.now.span.count (frames self.now.below))
-            ≡ min self.now.span.count (length (frames self.now.below) - result) }
-        ensures each { (i : ℕ) → slice_index (shown self.now.span.first self.now.span.count (frames self.now.below)) i
-            ≡ (if nat_lt i self.now.span.count then slice_index (frames self.now.below) (result + i) else 0) }
-        ensures lawful { Lawful (shown self.now.span.first self.now.span.count (frames self.now.below)) (free self.now.below) }
+        ensures is { result ≡ start_of self.now.span.first (M.frames self.now.below) }
+        ensures pages { length (shown self.now.span.first self.now.span.count (M.frames self.now.below))
+            ≡ min self.now.span.count (length (M.frames self.now.below) - result) }
+        ensures each { (i : ℕ) → slice_index (shown self.now.span.first self.now.span.count (M.frames self.now.below)) i
+            ≡ (if nat_lt i self.now.span.count then slice_index (M.frames self.now.below) (result + i) else 0) }
+        ensures lawful { Lawful (shown self.now.span.first self.now.span.count (M.frames self.now.below)) (M.free self.now.below) }
     {
         self.span.first.min(self.below.page_count() - 1)
     }
@@ -68,14 +69,14 @@ impl<M: Map> Window<M> {
     // Gives a page that the window shows a free frame: that page of the map below changes, and no other.
     pub fn put_through(&mut self, page: usize, frame: u8) -> Result<(), Refusal>
         ensures answer { MatchResult result
-            (λ _. PutDone (shown self.old.span.first self.old.span.count (frames self.old.below)) (free self.old.below) page frame
-            (shown self.new.span.first self.new.span.count (frames self.new.below)) (free self.new.below))
-            (λ e. PutRefused (shown self.old.span.first self.old.span.count (frames self.old.below))
-            (free self.old.below) page frame e × (self.new ≡ self.old)) }
+            (λ _. PutDone (shown self.old.span.first self.old.span.count (M.frames self.old.below)) (M.free self.old.below) page frame
+            (shown self.new.span.first self.new.span.count (M.frames self.new.below)) (M.free self.new.below))
+            (λ e. PutRefused (shown self.old.span.first self.old.span.count (M.frames self.old.below))
+            (M.free self.old.below) page frame e × (self.new ≡ self.old)) }
         ensures below { OnOk result (PutThrough self.old.span.first self.old.span.count
-            (frames self.old.below) (free self.old.below) page frame (frames self.new.below) (free self.new.below)) }
+            (M.frames self.old.below) (M.free self.old.below) page frame (M.frames self.new.below) (M.free self.new.below)) }
         ensures shows { self.new.span ≡ self.old.span }
-        ensures lawful { Lawful (shown self.new.span.first self.new.span.count (frames self.new.below)) (free self.new.below) }
+        ensures lawful { Lawful (shown self.new.span.first self.new.span.count (M.frames self.new.below)) (M.free self.new.below) }
     {
         let start = self.start();
         if page < self.span.count {

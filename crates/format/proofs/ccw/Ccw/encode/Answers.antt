@@ -9,5 +9,5 @@ pub returns : goal.returns
 returns c =
     let code : c.args.self.code < 256 = search rules in
     let count : c.args.self.count < 65536 = search rules in
-    let is = c.lay-out.ensures in
+    let is = c.lay_out.ensures in
     record { is = is; back = ap (λ b. ccw_at One (reader b) 0) is ∙ ccw_back c.args.self code count }

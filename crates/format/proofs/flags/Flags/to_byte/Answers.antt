@@ -5,5 +5,5 @@ use Rattle.format.proofs.flags.Flags.to_byte.Goals as goal
 
 pub returns : goal.returns
 returns c =
-    let is = c.sum-of-weights.ensures in
+    let is = c.sum_of_weights.ensures in
     record { is = is; back = ap flags_of is ∙ flags_back c.args.self }

@@ -13,8 +13,8 @@ loop-left-preserved c =
     let inv = c.loop-left.invariant in
     let size : n ≡ min left (serves k at) = search rules in
     let some : 0 < left = omega arith in
-    let on = c.step-on-at.ensures in
-    let room_on : (0 < left - n) → (serves k c.step-on-at.result ≡ 2048) × (left - n + 2048 * (c.loop-left.pieces.len + 1) < c.args.count + 2048) =
+    let on = c.step_on-at.ensures in
+    let room_on : (0 < left - n) → (serves k c.step_on-at.result ≡ 2048) × (left - n + 2048 * (c.loop-left.pieces.len + 1) < c.args.count + 2048) =
     rw on (cutting k at left c.loop-left.pieces.len c.args.count n size inv.1 inv.4 inv.3) in (
       ap (λ x. listed c.push.new.pieces ++ cut k (left - n) x (left - n)) on
           ∙ ap (λ x. x ++ cut k (left - n) (onward k at n) (left - n)) c.push.ensures.list

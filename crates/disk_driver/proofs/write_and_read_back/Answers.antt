@@ -12,38 +12,38 @@ returns c =
     let start = c.args.location.first in
     let blocks = c.args.location.count in
     let before = meaning c.args.disk.now in
-    let after = meaning c.write-blocks.new.disk in
+    let after = meaning c.write_blocks.new.disk in
     let bytes = c.args.bytes.now in
     let back = c.args.back.now in
     let full = c.args.disk.now.model.full in
     let exists : range_exists start blocks ≡ true = search rules in
-    let became : after ≡ written (bytes ∷ []) (located start blocks before) = c.write-blocks.ensures.became in
+    let became : after ≡ written (bytes ∷ []) (located start blocks before) = c.write_blocks.ensures.became in
     record {
       exists = sym exists;
       became =
-          c.read-blocks.ensures.became
+          c.read_blocks.ensures.became
           ∙ ap (λ u. after_read (length back ∷ []) (located start blocks u)) became
           ∙ sym (cond-true (range_exists start blocks) (after_read (length back ∷ []) (located start blocks (written (bytes ∷ []) (located start blocks before)))) before exists);
       filled =
-          c.read-blocks.ensures.filled
-          ∙ ap (λ r. take (length back) (to_read (located start blocks after)) ++ drop r back) c.read-blocks.ensures.count
+          c.read_blocks.ensures.filled
+          ∙ ap (λ r. take (length back) (to_read (located start blocks after)) ++ drop r back) c.read_blocks.ensures.count
           ∙ ap (λ u. overlaid (to_read (located start blocks u)) back) became
           ∙ sym (cond-true (range_exists start blocks) (overlaid (to_read (located start blocks (written (bytes ∷ []) (located start blocks before)))) back) back exists);
       same = λ at_rest r size asked.
           let rests : Idle after = ap disk_machine.pending became ∙ idle_after start blocks (bytes ∷ []) before at_rest exists in
-          read_fills start blocks c.read-blocks.result back c.read-blocks.new.buffer after rests exists asked c.read-blocks.ensures.count c.read-blocks.ensures.filled
+          read_fills start blocks c.read_blocks.result back c.read_blocks.new.buffer after rests exists asked c.read_blocks.ensures.count c.read_blocks.ensures.filled
           ∙ ap (λ x. blocks_at start blocks x.core.bytes) became
           ∙ held_after start blocks bytes before at_rest full exists size;
       kept = λ at_rest block apart.
           let rests : Idle after = ap disk_machine.pending became ∙ idle_after start blocks (bytes ∷ []) before at_rest exists in
-          ap (λ x. block_at block x.core.bytes) c.read-blocks.ensures.became
+          ap (λ x. block_at block x.core.bytes) c.read_blocks.ensures.became
           ∙ ap (block_at block) (read_keeps start blocks (length back ∷ []) after rests exists)
           ∙ ap (λ x. block_at block x.core.bytes) became
           ∙ write_keeps start blocks (bytes ∷ []) before block at_rest full exists apart;
     }
 
-pub returns-then-not-range-exists : goal.returns-then-not-range-exists
-returns-then-not-range-exists c =
+pub returns-then-not-range_exists : goal.returns-then-not-range_exists
+returns-then-not-range_exists c =
     let start = c.args.location.first in
     let blocks = c.args.location.count in
     let before = meaning c.args.disk.now in

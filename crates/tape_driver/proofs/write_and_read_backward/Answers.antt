@@ -11,11 +11,11 @@ returns c =
     let bytes = c.args.bytes.now in
     let buffer = c.args.buffer.now in
     let m = c.args.tape.now.model in
-    let got = c.read-backward.ensures in
-    let written = c.write-block.ensures.became in
+    let got = c.read_backward.ensures in
+    let written = c.write_block.ensures.became in
     record {
       count = got.count ∙ ap (λ u. min (length buffer) (length (heard 0x0C u))) written;
-      bytes = got.bytes ∙ ap (λ u. take (length buffer) (heard 0x0C u) ++ drop c.read-backward.result buffer) written;
+      bytes = got.bytes ∙ ap (λ u. take (length buffer) (heard 0x0C u) ++ drop c.read_backward.result buffer) written;
       became = got.became ∙ ap (after_read 0x0C (length buffer)) written;
       same = λ idle fits wide.
           let on = m.on_tape in
@@ -23,7 +23,7 @@ returns c =
           let back = written_is_read_backward bytes (length buffer) (meaning c.args.tape.now) (idle, on_tape) fits in
           let block = ap (heard 0x0C) written ∙ back.0 in
           let size = length-reverse bytes in
-          let read = all_read buffer c.read-backward.new.buffer (reverse bytes) _ c.read-backward.result block (omega arith) got.count got.bytes in (
+          let read = all_read buffer c.read_backward.new.buffer (reverse bytes) _ c.read_backward.result block (omega arith) got.count got.bytes in (
             read.0 ∙ size,
             read.1,
             ap (λ u. u.core.position) (got.became ∙ ap (after_read 0x0C (length buffer)) written) ∙ back.1,

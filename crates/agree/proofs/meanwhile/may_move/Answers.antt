@@ -8,4 +8,4 @@ returns g c =
     let free = g.M.Map.free map in
     let law = g.met.M.Map.lawful map in
     let m = g.D.Device.machine in
-    record { is = c.is-movable.ensures; agree = moves_agree fs free law m }
+    record { is = c.is_movable.ensures; agree = moves_agree fs free law m }

@@ -10,8 +10,8 @@ use Rattle.channel.proofs.Laying.{bytes_on, state_on, count_on, lay_nil, next_pi
 use Rattle.channel.proofs.Tables.{shaped_sizes, table_at}
 use Rattle.channel.proofs.moving.read_pieces.Goals as goal
 
-pub read-piece-moved-requires : goal.read-piece-moved-requires
-read-piece-moved-requires g c =
+pub read_piece-moved-requires : goal.read_piece-moved-requires
+read_piece-moved-requires g c =
     let t = c.args.pieces.now in
     let h : length t.items ≡ 33 = search rules in
     let short = t.short in
@@ -19,14 +19,14 @@ read-piece-moved-requires g c =
     let at = table_at c.args.backward (length c.args.storage.now) c.args.count t.items t.len c.requires (omega arith) c.loop-i.i c.loop-i-test.true in
     (rw st at.0, at.1)
 
-pub overflow-add-moved : goal.overflow-add-moved
-overflow-add-moved g c =
+pub overflow_add-moved : goal.overflow_add-moved
+overflow_add-moved g c =
     let t = c.args.pieces.now in
     let i = c.loop-i.i in
     let h : i < length t.items = search rules in
     let e = next_piece t.items t.len i c.loop-i-test.true h in
     let total = shaped_sizes c.args.backward (length c.args.storage.now) false c.args.count (listed t) c.requires in
-    omega (arith, c.loop-i.invariant.0, ap sizes e, total, c.read-piece-moved.ensures.moved)
+    omega (arith, c.loop-i.invariant.0, ap sizes e, total, c.read_piece-moved.ensures.moved)
 
 pub loop-i-preserved : goal.loop-i-preserved
 loop-i-preserved g c =
@@ -40,10 +40,10 @@ loop-i-preserved g c =
     let e = next_piece t.items t.len i c.loop-i-test.true h in
     let inv = c.loop-i.invariant in
     let s = d.state c.loop-i.device in
-    let u = d.state c.read-piece-moved.new.device in
-    let done = c.read-piece-moved.ensures in (
-      omega (arith, count_on d.laws c.args.backward p rest s u c.read-piece-moved.result done.became done.moved, inv.0, ap sizes e),
-      bytes_on d.laws c.args.backward p rest c.loop-i.storage c.read-piece-moved.new.storage s u done.bytes done.became
+    let u = d.state c.read_piece-moved.new.device in
+    let done = c.read_piece-moved.ensures in (
+      omega (arith, count_on d.laws c.args.backward p rest s u c.read_piece-moved.result done.became done.moved, inv.0, ap sizes e),
+      bytes_on d.laws c.args.backward p rest c.loop-i.storage c.read_piece-moved.new.storage s u done.bytes done.became
           ∙ ap (λ x. lay (area c.args.backward x) (due (m.pending s)) c.loop-i.storage) (sym e) ∙ inv.1,
       state_on d.laws c.args.backward p rest s u done.became ∙ ap (λ x. m.given (sizes x) s) (sym e) ∙ inv.2,
     )

@@ -17,6 +17,6 @@ returns g c =
     let front : take got c.give-got.new.buffer ≡ take n l = ap (take got) c.give-got.ensures.bytes ∙ take_at (take n l) (drop got c.args.scratch.now) got len in
     record {
       moved = c.give-got.ensures.count;
-      bytes = c.store-downward.ensures ∙ ap (λ x. lay (run true c.args.first n) x c.args.storage.now) front ∙ lay_take true c.args.first n l c.args.storage.now;
+      bytes = c.store_downward.ensures ∙ ap (λ x. lay (run true c.args.first n) x c.args.storage.now) front ∙ lay_take true c.args.first n l c.args.storage.now;
       became = c.give-got.ensures.became;
     }

@@ -7,8 +7,8 @@ use Rattle.channel.specs.Moves.{lay}
 use Rattle.channel.proofs.Tables.{shaped_wider, shaped_sizes, lay_area}
 use Rattle.channel.proofs.step.read_area.Goals as goal
 
-pub read-pieces-requires : goal.read-pieces-requires
-read-pieces-requires g c =
+pub read_pieces-requires : goal.read_pieces-requires
+read_pieces-requires g c =
     let t = c.args.taken.now in
     let st = c.args.storage.now in
     let b : c.backward.result ≡ backward t.code = c.backward.ensures ∙ ap backwards c.of.ensures in
@@ -24,7 +24,7 @@ returns g c =
     let count = t.ccw.value.count in
     let b : c.backward.result ≡ backward t.code = c.backward.ensures ∙ ap backwards c.of.ensures in
     let e = shaped_sizes (backward t.code) (reach st) _ count (listed t.pieces) c.requires.shaped in
-    let done = c.read-pieces.ensures in
+    let done = c.read_pieces.ensures in
     record {
       count = done.moved ∙ ap (λ j. min j (length (due (m.pending s)))) e ∙ sym (length-take count (due (m.pending s)));
       bytes = done.bytes ∙ ap (λ k. lay (area k (listed t.pieces)) (due (m.pending s)) st) b ∙ lay_area (backward t.code) (listed t.pieces) count (due (m.pending s)) st e;

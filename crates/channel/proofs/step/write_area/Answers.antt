@@ -9,8 +9,8 @@ use Rattle.channel.proofs.Directions.{writes_upward}
 use Rattle.channel.proofs.Tables.{shaped_wider, shaped_sizes, length-area}
 use Rattle.channel.proofs.step.write_area.Goals as goal
 
-pub write-pieces-requires : goal.write-pieces-requires
-write-pieces-requires g c =
+pub write_pieces-requires : goal.write_pieces-requires
+write_pieces-requires g c =
     let t = c.args.taken.now in
     let st = c.args.storage.now in
     let fits : reach st ≤ length st = omega arith in
@@ -24,7 +24,7 @@ returns g c =
     let t = c.args.taken.now in
     let st = c.args.storage.now in
     let f = writes_upward t.code c.requires.1 in
-    let done = c.write-pieces.ensures in
+    let done = c.write_pieces.ensures in
     let e = shaped_sizes (backward t.code) (reach st) false t.ccw.value.count (listed t.pieces) c.requires.0.shaped in
     let len : length (gathered (cell_of t) st) ≡ sizes (listed t.pieces) = length-map (addresses_of (cell_of t)) (reader st) ∙ length-area (backward t.code) (listed t.pieces) in
     record {

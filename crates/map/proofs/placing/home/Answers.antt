@@ -9,9 +9,9 @@ returns g c =
     let map = c.args.map.now in
     let host = c.args.address.0 in
     let fs = g.M.Map.frames map in
-    let guest = c.in-page.result in
-    let has = c.in-ok-page.ensures in
-    let lies : LiesAt fs guest host = subst (λ (a : ℕ). LiesAt fs a host) (sym c.in-page.ensures) (home_lies fs c.in-ok-page.page host has.0 has.1) in
+    let guest = c.in_page.result in
+    let has = c.in_ok-page.ensures in
+    let lies : LiesAt fs guest host = subst (λ (a : ℕ). LiesAt fs a host) (sym c.in_page.ensures) (home_lies fs c.in_ok-page.page host has.0 has.1) in
     let some : ℕ → Option GuestAddress = λ a. Some (record { 0 = a }) in
     record {
       answer = lies;

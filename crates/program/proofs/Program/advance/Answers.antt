@@ -14,7 +14,7 @@ loop-self-preserved g c =
     let inv = c.loop-self.invariant in
     let here : World m = record { storage = c.loop-self.storage; state = d.state c.loop-self.device; run = c.loop-self.self.run } in
     let after : World m = record { storage = c.step.new.storage; state = d.state c.step.new.device; run = c.step.new.self.run } in
-    let t = and_parts (ltb count limit) (not (is_ended here.run)) (sym c.goes-on.ensures ∙ c.loop-self-test.true) in
+    let t = and_parts (ltb count limit) (not (is_ended here.run)) (sym c.goes_on.ensures ∙ c.loop-self-test.true) in
     let less : count < limit = ltb-true count limit t.0 in
     let some : 0 < limit - count = omega arith in
     let e : after ≡ stepped m F here = c.step.ensures.world ∙ ap (λ f. stepped m f here) inv.0 in
@@ -39,7 +39,7 @@ returns g c =
     let inv = c.loop-self.invariant in
     let here : World m = record { storage = c.loop-self.storage; state = d.state c.loop-self.device; run = c.loop-self.self.run } in
     let before : World m = record { storage = c.args.storage.now; state = d.state c.args.device.now; run = c.args.self.now.run } in
-    let stop = and_cases (ltb count limit) (not (is_ended here.run)) (sym c.goes-on.ensures ∙ c.loop-self-test.false) in
+    let stop = and_cases (ltb count limit) (not (is_ended here.run)) (sym c.goes_on.ensures ∙ c.loop-self-test.false) in
     let none : advanced m F (limit - count) here ≡ (0, here) =
     elim stop [
       | inl full ↦ advanced_none m F (limit - count) here (let h = ltb-false count limit full in omega arith)

@@ -9,7 +9,7 @@ returns g c =
     let m = d.machine in
     let p = c.args.self.now in
     let st = c.args.storage.now in
-    let done = c.step-once.ensures in
+    let done = c.step_once.ensures in
     record {
       format = done.format;
       world = done.world;

@@ -7,24 +7,24 @@ use Rattle.rules.specs.TakingUp.{reach}
 use Rattle.rules.proofs.AreaSteps.{onto, words_none, word_on, word_off, worded}
 use Rattle.rules.proofs.area.word_pieces.Goals as goal
 
-pub returns-in-err-piece : goal.returns-in-err-piece
-returns-in-err-piece g c =
+pub returns-in_err-piece : goal.returns-in_err-piece
+returns-in_err-piece g c =
     let st = g.S.Storage.bytes c.args.storage.now in
-    let e = c.in-err-piece.field-0.0 in
-    let p = err_from_is_err_and c.from-residual.result c.from-residual.ensures.1 in
+    let e = c.in_err-piece.field-0.0 in
+    let p = err_from_is_err_and c.from_residual.result c.from_residual.ensures.1 in
     let some : 0 < c.loop-left.left = omega arith in
-    rw (p.1, p.2) (sym (word_off c.args.backward (reach st) (reader st) c.args.ccw (listed c.loop-left.pieces) c.loop-left.later c.loop-left.at c.loop-left.left e some c.in-err-piece.ensures.is) ∙ c.loop-left.invariant.0)
+    rw (p.1, p.2) (sym (word_off c.args.backward (reach st) (reader st) c.args.ccw (listed c.loop-left.pieces) c.loop-left.later c.loop-left.at c.loop-left.left e some c.in_err-piece.ensures.is) ∙ c.loop-left.invariant.0)
 
 pub loop-left-preserved : goal.loop-left-preserved
 loop-left-preserved g c =
     let st = g.S.Storage.bytes c.args.storage.now in
-    let p = c.in-ok-piece.piece in
+    let p = c.in_ok-piece.piece in
     let inv = c.loop-left.invariant in
     let left = c.loop-left.left in
     let some : 0 < left = omega arith in
-    let size = c.in-ok-piece.ensures.size in (
+    let size = c.in_ok-piece.ensures.size in (
       ap (λ x. onto x (by_words c.args.backward (reach st) (reader st) c.args.ccw (left - p.size) true (c.loop-left.at + 4) (left - p.size))) c.push.ensures.list
-          ∙ sym (word_on c.args.backward (reach st) (reader st) c.args.ccw (listed c.loop-left.pieces) c.loop-left.later c.loop-left.at left p some c.in-ok-piece.ensures.is)
+          ∙ sym (word_on c.args.backward (reach st) (reader st) c.args.ccw (listed c.loop-left.pieces) c.loop-left.later c.loop-left.at left p some c.in_ok-piece.ensures.is)
           ∙ inv.0,
       omega arith,
       λ e. let z : ◌≡◌ {A = ℕ} 0 1 = cc in absurd (omega arith),

@@ -3,5 +3,5 @@ use Rattle.rules.proofs.taking_up.take_up.Goals as goal
 
 pub returns : goal.returns
 returns g c =
-    let is = c.find-and-read.ensures in
-    record { is = is; sound = answer_sound c.args.format (g.S.Storage.bytes c.args.storage.now) c.args.place c.find-and-read.result is }
+    let is = c.find_and_read.ensures in
+    record { is = is; sound = answer_sound c.args.format (g.S.Storage.bytes c.args.storage.now) c.args.place c.find_and_read.result is }

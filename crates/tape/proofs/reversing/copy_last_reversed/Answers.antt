@@ -10,5 +10,5 @@ returns c =
     let count : n ≡ min (length buffer) (length bytes) = search rules in
     record {
       count = count;
-      copied = ap (λ x. x ++ drop n buffer) (c.copy-reversed.ensures ∙ ap reverse (between_to_end bytes (length bytes - n) (length bytes) (omega arith)));
+      copied = ap (λ x. x ++ drop n buffer) (c.copy_reversed.ensures ∙ ap reverse (between_to_end bytes (length bytes - n) (length bytes) (omega arith)));
     }

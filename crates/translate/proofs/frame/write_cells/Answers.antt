@@ -27,7 +27,7 @@ loop-i-preserved c =
     let short = taken.pieces.short in
     let room : 8 * i ≤ length part = omega (arith, c.requires, c.loop-i.auto.part, table.short) in
     let few : length (listed taken.pieces) ≤ 33 = simp length-take (omega arith) in
-    let cell = c.put-at.ensures ∙ ap (λ x. put_at (8 * i) x part) (c.encode.ensures.is ∙ ap ccw_bytes c.cell-ccw.ensures) in (
+    let cell = c.put_at.ensures ∙ ap (λ x. put_at (8 * i) x part) (c.encode.ensures.is ∙ ap ccw_bytes c.cell_ccw.ensures) in (
       ap (put_at (8 * (i + 1)) (cells_bytes rest (behind_list t list))) cell
           ∙ put_cell i list t rest part room
           ∙ ap (λ x. put_at (8 * i) (cells_bytes x list) part) (sym e)

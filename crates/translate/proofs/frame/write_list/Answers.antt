@@ -9,8 +9,8 @@ use Rattle.translate.specs.Writing.{put_at}
 use Rattle.translate.proofs.Puts.{put_word, put_none, no_words, piece_below, host_words}
 use Rattle.translate.proofs.frame.write_list.Goals as goal
 
-pub overflow-cast-first : goal.overflow-cast-first
-overflow-cast-first g c =
+pub overflow_cast-first : goal.overflow_cast-first
+overflow_cast-first g c =
     let table = c.args.pieces.now in
     let fs = g.M.Map.frames c.args.map.now in
     let h : c.loop-i.i < length table.items = search rules in
@@ -18,8 +18,8 @@ overflow-cast-first g c =
     let below = piece_below (end_of fs) table.items table.len c.loop-i.i c.loop-i-test.true h c.requires.1 in
     omega arith
 
-pub host-word-requires : goal.host-word-requires
-host-word-requires g c =
+pub host_word-requires : goal.host_word-requires
+host_word-requires g c =
     let table = c.args.pieces.now in
     let h : c.loop-i.i < length table.items = search rules in
     piece_below (end_of (g.M.Map.frames c.args.map.now)) table.items table.len c.loop-i.i c.loop-i-test.true h c.requires.1
@@ -37,7 +37,7 @@ loop-i-preserved g c =
     let rest = map first_of (drop (i + 1) (listed table)) in
     let many : length (listed table) ≡ table.len = simp length-take (omega (arith, table.short)) in
     let room : address + 4 * i ≤ length part = omega (arith, c.requires.0, c.loop-i.auto.part) in
-    let word = c.put-at.ensures ∙ ap (λ x. put_at (address + 4 * i) x part) (c.word-to-bytes.ensures ∙ ap word_bytes c.host-word.ensures) in
+    let word = c.put_at.ensures ∙ ap (λ x. put_at (address + 4 * i) x part) (c.word_to_bytes.ensures ∙ ap word_bytes c.host_word.ensures) in
     ap (put_at (address + 4 * (i + 1)) (host_words place rest)) word
     ∙ put_word address i (place first) (map place rest) part room
     ∙ ap (λ x. put_at (address + 4 * i) (host_words place (map first_of x)) part) (sym e)

@@ -11,8 +11,8 @@ use Rattle.translate.specs.Writing.{put_at}
 use Rattle.translate.proofs.Puts.{put_list, put_none, no_words, words_more, words_none, list_below, host_words}
 use Rattle.translate.proofs.frame.write_lists.Goals as goal
 
-pub write-list-requires : goal.write-list-requires
-write-list-requires g c =
+pub write_list-requires : goal.write_list-requires
+write_list-requires g c =
     let table = c.args.cells.now in
     let i = c.loop-i.i in
     let d = c.index-cells-i.result in
@@ -42,7 +42,7 @@ loop-i-preserved g c =
     let place = place_of fs in
     let many = ap (λ x. length (words_of x)) e ∙ words_more t rest in
     let room : 4 * words ≤ length part = omega (arith, inv.1, c.requires.0, c.loop-i.auto.part) in (
-      ap (put_at (4 * (words + length t.pieces)) (host_words place (words_of rest))) c.write-list.ensures
+      ap (put_at (4 * (words + length t.pieces)) (host_words place (words_of rest))) c.write_list.ensures
           ∙ put_list place words t rest part room
           ∙ ap (λ x. put_at (4 * words) (host_words place (words_of x)) part) (sym e)
           ∙ inv.0,

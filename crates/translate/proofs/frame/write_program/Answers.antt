@@ -12,11 +12,11 @@ returns c =
     let cells = cells_of w.cells in
     let written = cells_bytes cells 1024 in
     let closing = closing_bytes w.closes in
-    let at = 8 * c.cell-count.result in
+    let at = 8 * c.cell_count.result in
     let size = length-cells cells 1024 in
-    let behind : at ≡ 0 + length written = omega (arith, c.cell-count.ensures.is) in
-    c.write-closing.ensures
-    ∙ ap (put_at at closing) c.write-cells.ensures
+    let behind : at ≡ 0 + length written = omega (arith, c.cell_count.ensures.is) in
+    c.write_closing.ensures
+    ∙ ap (put_at at closing) c.write_cells.ensures
     ∙ put_more 0 at written closing part (omega arith) behind
     ∙ ap (put_at 0 (written ++ closing)) c.requires.0
     ∙ put_zeros 1024 (written ++ closing)

@@ -8,8 +8,8 @@ returns c =
     let buffer = c.args.buffer.now in
     let bytes = c.args.bytes.now in
     let gone = c.args.gone in
-    let r = c.copy-first.result in
-    let done = c.copy-first.ensures in
+    let r = c.copy_first.result in
+    let done = c.copy_first.ensures in
     let rest : take (length bytes - gone) (drop gone bytes) ≡ drop gone bytes = between_to_end bytes gone (length bytes) (omega arith) in
     let count : r ≡ min (length buffer) (length (drop gone bytes)) = done.count ∙ ap (λ x. min (length buffer) (length x)) rest in
     record {

@@ -10,5 +10,5 @@ returns c =
     let first : take c.min-n.result bytes ≡ take (length buffer) bytes = ap (λ j. take j bytes) count ∙ take_min (length buffer) bytes in
     record {
       count = count;
-      copied = ap (λ x. x ++ drop c.min-n.result buffer) (c.copy-from-slice.ensures.after ∙ first);
+      copied = ap (λ x. x ++ drop c.min-n.result buffer) (c.copy_from_slice.ensures.after ∙ first);
     }

@@ -13,17 +13,17 @@ loop-i-preserved c =
     let d = c.index-cells-i.result in
     let h : i < length k.items = search rules in
     let e = next_cell cell_of k.items k.len i d c.loop-i-test.true h in
-    sym (met_on c.args.address c.args.command (cell_of (get_or k.items i d)) (drop (i + 1) (cells_of k)) i (sym c.is-same-place.ensures ∙ c.if-is-same-place.false))
+    sym (met_on c.args.address c.args.command (cell_of (get_or k.items i d)) (drop (i + 1) (cells_of k)) i (sym c.is_same_place.ensures ∙ c.if-is_same_place.false))
     ∙ ap (λ x. met c.args.address c.args.command x i) (sym e) ∙ c.loop-i.invariant
 
-pub returns-then-is-same-place : goal.returns-then-is-same-place
-returns-then-is-same-place c =
+pub returns-then-is_same_place : goal.returns-then-is_same_place
+returns-then-is_same_place c =
     let k = c.args.cells.now in
     let i = c.loop-i.i in
     let d = c.index-cells-i.result in
     let h : i < length k.items = search rules in
     let e = next_cell cell_of k.items k.len i d c.loop-i-test.true h in
-    sym (met_here c.args.address c.args.command (cell_of (get_or k.items i d)) (drop (i + 1) (cells_of k)) i (sym c.is-same-place.ensures ∙ c.if-is-same-place.true))
+    sym (met_here c.args.address c.args.command (cell_of (get_or k.items i d)) (drop (i + 1) (cells_of k)) i (sym c.is_same_place.ensures ∙ c.if-is_same_place.true))
     ∙ ap (λ x. met c.args.address c.args.command x i) (sym e) ∙ c.loop-i.invariant
 
 pub returns-after-loop-i : goal.returns-after-loop-i

@@ -19,6 +19,6 @@ answer_alone bytes start (Err x) e = tt
 
 pub returns : goal.returns
 returns g c =
-    let is = c.walk-places.ensures in
+    let is = c.walk_places.ensures in
     let st = g.S.Storage.bytes c.args.storage.now in
-    record { is = is; sound = answer_sound st c.args.start c.walk-places.result is; alone = answer_alone st c.args.start c.walk-places.result is }
+    record { is = is; sound = answer_sound st c.args.start c.walk_places.result is; alone = answer_alone st c.args.start c.walk_places.result is }

@@ -11,7 +11,7 @@ returns g c =
     let free = g.M.Map.free map in
     let law = g.met.M.Map.lawful map in
     let m = g.D.Device.machine in
-    let e = c.advance-sides.ensures in
+    let e = c.advance_sides.ensures in
     let left : ℕ × World m → World m = λ r. r.1 in
     record {
       host = e.host;

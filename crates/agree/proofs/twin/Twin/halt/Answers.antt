@@ -10,7 +10,7 @@ returns g c =
     let free = g.M.Map.free map in
     let law = g.met.M.Map.lawful map in
     let m = g.D.Device.machine in
-    let e = c.halt-sides.ensures in
+    let e = c.halt_sides.ensures in
     record {
       host = e.host;
       direct = e.direct;

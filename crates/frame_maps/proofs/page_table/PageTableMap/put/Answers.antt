@@ -4,8 +4,8 @@ use Rattle.frame_maps.proofs.Puts.{put_lawful}
 use Rattle.frame_maps.proofs.Flags.{table_put, table_lawful}
 use Rattle.frame_maps.proofs.page_table.PageTableMap.put.Goals as goal
 
-pub invariant-of-self : goal.invariant-of-self
-invariant-of-self c =
+pub invariant_of-self : goal.invariant_of-self
+invariant_of-self c =
     let t = c.args.self.now in
     let page = c.args.page in
     let frame = c.args.frame in

@@ -2,8 +2,8 @@ use Rattle.std.proofs.Common.{refl, arith, rules}
 use Rattle.frame_maps.proofs.Runs.{run_long, run_each, run_lawful, run_bounds}
 use Rattle.frame_maps.proofs.run.Run.new.Goals as goal
 
-pub invariant-of-result : goal.invariant-of-result
-invariant-of-result c =
+pub invariant_of-result : goal.invariant_of-result
+invariant_of-result c =
     let first = c.args.first in
     let count = c.args.count in
     let l = run_lawful first count (omega arith) (omega arith) (omega arith) (omega arith) in

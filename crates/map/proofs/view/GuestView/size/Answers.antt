@@ -12,7 +12,7 @@ returns g c =
     let most = (g.met.M.Map.lawful v.map.now).1 in
     let len = length-guest_bytes fs host in
     record {
-      is = ap (λ n. n * 4096) c.page-count.ensures;
+      is = ap (λ n. n * 4096) c.page_count.ensures;
       small = omega arith;
       bytes = by_place fs host;
       past = λ a h. get_or_past (guest_bytes fs host) a 0 (omega arith);

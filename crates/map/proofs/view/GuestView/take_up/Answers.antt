@@ -9,5 +9,5 @@ returns g c =
     let host = c.args.self.now.host.now in
     record {
       bytes = by_place fs host;
-      answer = λ copy same. c.take-up-in-place.ensures ∙ ap (λ bytes. taken_up c.args.format bytes c.args.place) (sym (copy_is fs host copy same));
+      answer = λ copy same. c.take_up_in_place.ensures ∙ ap (λ bytes. taken_up c.args.format bytes c.args.place) (sym (copy_is fs host copy same));
     }

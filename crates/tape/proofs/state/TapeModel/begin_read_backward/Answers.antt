@@ -7,6 +7,6 @@ pub returns : goal.returns
 returns c =
     let opened = sym (opens_read_backward c.args.self.now (omega arith)) in
     record {
-      answer = ap (λ x. Open (length x) (length x)) c.block-at.ensures.bytes ∙ answer_of opened;
+      answer = ap (λ x. Open (length x) (length x)) c.block_at.ensures.bytes ∙ answer_of opened;
       became = state_of opened;
     }

@@ -3,8 +3,8 @@ use Rattle.tape.proofs.Blocks.{count_is, at_is, length_is}
 use Rattle.tape.proofs.Tapes.{end_within}
 use Rattle.tape.proofs.state.TapeModel.block_at.Goals as goal
 
-pub slice-bounds-result-end : goal.slice-bounds-result-end
-slice-bounds-result-end c =
+pub slice_bounds-result-end : goal.slice_bounds-result-end
+slice_bounds-result-end c =
     let m = c.args.self.now in
     let up = m.filled c.args.index c.requires in
     let end : get_or m.starts (c.args.index + 1) 0 ≤ 8192 = end_within m (c.args.index + 1) (omega arith) in

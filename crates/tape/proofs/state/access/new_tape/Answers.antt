@@ -16,11 +16,11 @@ within c =
     let found = c.in-Some.ensures in
     omega (arith, found.0.small, last_start c.args.lengths.now c.in-Some.starts found.1, c.if-starts-lengths.false)
 
-pub with-zeros-requires : goal.with-zeros-requires
-with-zeros-requires c = within c
+pub with_zeros-requires : goal.with_zeros-requires
+with_zeros-requires c = within c
 
-pub invariant-of-new : goal.invariant-of-new
-invariant-of-new c =
+pub invariant_of-new : goal.invariant_of-new
+invariant_of-new c =
     let lengths = c.args.lengths.now in
     let starts = c.in-Some.starts in
     let found = c.in-Some.ensures in
@@ -38,5 +38,5 @@ returns c =
     let whole = sym (last_start lengths starts found.1) ∙ c.if-starts-lengths.false in (
       record { fit = found.0; whole = whole },
       c.new.ensures.first
-          ∙ ap (λ x. unit_at_first tape_core (record { blocks = x; position = 0; command = none })) (cut_blocks lengths starts found.1 bytes c.with-zeros.result whole c.with-zeros.ensures),
+          ∙ ap (λ x. unit_at_first tape_core (record { blocks = x; position = 0; command = none })) (cut_blocks lengths starts found.1 bytes c.with_zeros.result whole c.with_zeros.ensures),
     )

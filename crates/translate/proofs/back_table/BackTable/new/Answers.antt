@@ -2,5 +2,5 @@ use Rattle.std.proofs.Common.{arith, rules}
 use Rattle.translate.proofs.Tables.{zeros_below}
 use Rattle.translate.proofs.back_table.BackTable.new.Goals as goal
 
-pub invariant-of-result : goal.invariant-of-result
-invariant-of-result c = (omega arith, (zeros_below 2147483648 64 (omega arith), tt))
+pub invariant_of-result : goal.invariant_of-result
+invariant_of-result c = (omega arith, (zeros_below 2147483648 64 (omega arith), tt))

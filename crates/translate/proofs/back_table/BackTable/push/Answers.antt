@@ -3,8 +3,8 @@ use Rattle.std.proofs.lemmas.List.{take_more_set}
 use Rattle.translate.proofs.Tables.{set_below}
 use Rattle.translate.proofs.back_table.BackTable.push.Goals as goal
 
-pub invariant-of-self : goal.invariant-of-self
-invariant-of-self c =
+pub invariant_of-self : goal.invariant_of-self
+invariant_of-self c =
     let t = c.args.self.now in
     (omega arith, (set_below 2147483648 t.addresses t.len c.args.address t.inside c.requires.1, tt))
 

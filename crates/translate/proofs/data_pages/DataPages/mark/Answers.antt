@@ -5,7 +5,7 @@ use Rattle.translate.specs.Translations.{piece_in}
 use Rattle.walk.proofs.Touching.{next_entry, no_piece}
 use Rattle.translate.proofs.Marks.{piece_marked, piece_past, no_piece_in}
 use Rattle.translate.proofs.data_pages.DataPages.mark.Goals as goal
-use Rattle.translate.proofs.data_pages.DataPages.mark.Goals.{then-page-lt-MOST-PAGES, else-page-lt-MOST-PAGES}
+use Rattle.translate.proofs.data_pages.DataPages.mark.Goals.{then-page-lt-MOST_PAGES, else-page-lt-MOST_PAGES}
 
 pub loop-i-preserved : goal.loop-i-preserved
 loop-i-preserved c =
@@ -18,9 +18,9 @@ loop-i-preserved c =
     let e = next_entry table.items table.len i no_piece c.loop-i-test.true h in
     let inv = c.loop-i.invariant in
     let long = inv.1 in
-    elim c.if-page-lt-MOST-PAGES.branch [
-      | then-page-lt-MOST-PAGES w ↦
-          let low : p.first / 4096 < length flags = omega (arith, w.if-page-lt-MOST-PAGES.true) in (
+    elim c.if-page-lt-MOST_PAGES.branch [
+      | then-page-lt-MOST_PAGES w ↦
+          let low : p.first / 4096 < length flags = omega (arith, w.if-page-lt-MOST_PAGES.true) in (
             (λ page k.
                 ap (λ x. get_or x.flags page false || piece_in page rest) w.self-is
                 ∙ piece_marked flags p rest page low
@@ -28,10 +28,10 @@ loop-i-preserved c =
                 ∙ inv.0 page k),
             ap (λ x. length x.flags) w.self-is ∙ length-set flags (p.first / 4096) true ∙ inv.1,
           )
-      | else-page-lt-MOST-PAGES w ↦ (
+      | else-page-lt-MOST_PAGES w ↦ (
         (λ page k.
             ap (λ x. get_or x.flags page false || piece_in page rest) w.self-is
-            ∙ piece_past p rest page (get_or flags page false) (λ same. omega (arith, same, w.if-page-lt-MOST-PAGES.false))
+            ∙ piece_past p rest page (get_or flags page false) (λ same. omega (arith, same, w.if-page-lt-MOST_PAGES.false))
             ∙ ap (λ x. get_or flags page false || piece_in page x) (sym e)
             ∙ inv.0 page k),
         ap (λ x. length x.flags) w.self-is ∙ inv.1,

@@ -14,11 +14,11 @@ loop-i-preserved c =
     let h : i < length table.items = search rules in
     let p = get_or table.items i no_piece in
     let e = next_entry table.items table.len i no_piece c.loop-i-test.true h in
-    let hit : c.is-some.result ≡ is_some (touched es (lowest back p) p.size) = c.is-some.ensures ∙ ap is_some c.touch.ensures.is ∙ ap (λ x. is_some (touched es x p.size)) c.lowest-byte.ensures in
-    sym (any_later es back p (drop (i + 1) (listed table)) (sym hit ∙ c.if-is-some.false)) ∙ ap (any_touched es back) (sym e) ∙ c.loop-i.invariant
+    let hit : c.is_some.result ≡ is_some (touched es (lowest back p) p.size) = c.is_some.ensures ∙ ap is_some c.touch.ensures.is ∙ ap (λ x. is_some (touched es x p.size)) c.lowest_byte.ensures in
+    sym (any_later es back p (drop (i + 1) (listed table)) (sym hit ∙ c.if-is_some.false)) ∙ ap (any_touched es back) (sym e) ∙ c.loop-i.invariant
 
-pub returns-then-is-some : goal.returns-then-is-some
-returns-then-is-some c =
+pub returns-then-is_some : goal.returns-then-is_some
+returns-then-is_some c =
     let es = extents_in c.args.own.now in
     let back = c.args.backward in
     let table = c.args.pieces.now in
@@ -26,8 +26,8 @@ returns-then-is-some c =
     let h : i < length table.items = search rules in
     let p = get_or table.items i no_piece in
     let e = next_entry table.items table.len i no_piece c.loop-i-test.true h in
-    let hit : c.is-some.result ≡ is_some (touched es (lowest back p) p.size) = c.is-some.ensures ∙ ap is_some c.touch.ensures.is ∙ ap (λ x. is_some (touched es x p.size)) c.lowest-byte.ensures in
-    sym (any_here es back p (drop (i + 1) (listed table)) (sym hit ∙ c.if-is-some.true)) ∙ ap (any_touched es back) (sym e) ∙ c.loop-i.invariant
+    let hit : c.is_some.result ≡ is_some (touched es (lowest back p) p.size) = c.is_some.ensures ∙ ap is_some c.touch.ensures.is ∙ ap (λ x. is_some (touched es x p.size)) c.lowest_byte.ensures in
+    sym (any_here es back p (drop (i + 1) (listed table)) (sym hit ∙ c.if-is_some.true)) ∙ ap (any_touched es back) (sym e) ∙ c.loop-i.invariant
 
 pub returns : goal.returns
 returns c =

@@ -16,18 +16,18 @@ loop-i-preserved c =
     let d = c.index-cells-i.result in
     let h : i < length k.items = search rules in
     let e = next_cell cell_of k.items k.len i d c.loop-i-test.true h in
-    sym (first_later es (cell_of (get_or k.items i d)) (drop (i + 1) (cells_of k)) (sym c.overwrites-own.ensures ∙ c.if-overwrites-own.false))
+    sym (first_later es (cell_of (get_or k.items i d)) (drop (i + 1) (cells_of k)) (sym c.overwrites_own.ensures ∙ c.if-overwrites_own.false))
     ∙ ap (first_overwriting es) (sym e) ∙ c.loop-i.invariant
 
-pub returns-then-overwrites-own : goal.returns-then-overwrites-own
-returns-then-overwrites-own c =
+pub returns-then-overwrites_own : goal.returns-then-overwrites_own
+returns-then-overwrites_own c =
     let es = extents_in c.args.own.now in
     let k = c.args.cells.now in
     let i = c.loop-i.i in
     let d = c.index-cells-i.result in
     let h : i < length k.items = search rules in
     let e = next_cell cell_of k.items k.len i d c.loop-i-test.true h in
-    sym (first_here es (cell_of (get_or k.items i d)) (drop (i + 1) (cells_of k)) (sym c.overwrites-own.ensures ∙ c.if-overwrites-own.true))
+    sym (first_here es (cell_of (get_or k.items i d)) (drop (i + 1) (cells_of k)) (sym c.overwrites_own.ensures ∙ c.if-overwrites_own.true))
     ∙ ap (first_overwriting es) (sym e) ∙ c.loop-i.invariant
 
 pub returns : goal.returns

@@ -17,12 +17,12 @@ loop-i-preserved c =
     let e = next_cell cell_of k.items k.len i d c.loop-i-test.true h in
     let t = cell_of (get_or k.items i d) in
     let inv = c.loop-i.invariant in
-    let list : extents_in c.push-cell.new.own ≡ extents_in c.loop-i.own ++ (ccw_extent t ∷ list_extent t ∷ []) = c.push-cell.ensures.list in (
+    let list : extents_in c.push_cell.new.own ≡ extents_in c.loop-i.own ++ (ccw_extent t ∷ list_extent t ∷ []) = c.push_cell.ensures.list in (
       ap (λ x. x ++ extents_of (drop (i + 1) (cells_of k))) list
           ∙ extents_more (extents_in c.loop-i.own) t (drop (i + 1) (cells_of k))
           ∙ ap (λ x. extents_in c.loop-i.own ++ extents_of x) (sym e)
           ∙ inv.0,
-      omega (arith, c.push-cell.ensures.len, inv.1),
+      omega (arith, c.push_cell.ensures.len, inv.1),
     )
 
 pub returns : goal.returns

@@ -10,9 +10,9 @@ returns c =
     record {
       list =
           c.push-2.ensures.list
-          ∙ ap (λ x. x ++ c.list-bytes.result ∷ []) c.push.ensures.list
-          ∙ append_assoc (extents_in own) (c.ccw-bytes.result ∷ []) (c.list-bytes.result ∷ [])
-          ∙ ap (λ x. extents_in own ++ x ∷ c.list-bytes.result ∷ []) c.ccw-bytes.ensures
-          ∙ ap (λ x. extents_in own ++ ccw_extent t ∷ x ∷ []) c.list-bytes.ensures;
+          ∙ ap (λ x. x ++ c.list_bytes.result ∷ []) c.push.ensures.list
+          ∙ append_assoc (extents_in own) (c.ccw_bytes.result ∷ []) (c.list_bytes.result ∷ [])
+          ∙ ap (λ x. extents_in own ++ x ∷ c.list_bytes.result ∷ []) c.ccw_bytes.ensures
+          ∙ ap (λ x. extents_in own ++ ccw_extent t ∷ x ∷ []) c.list_bytes.ensures;
       len = omega (arith, c.push.ensures.len, c.push-2.ensures.len);
     }

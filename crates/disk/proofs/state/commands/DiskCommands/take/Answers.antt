@@ -20,7 +20,7 @@ returns-in-Writing c =
     let count : n ≡ min (length offered) (limit - next) = c.min-n.ensures in
     let flipped : n ≡ min (limit - next) (length offered) = omega arith in
     let accepted : take n offered ≡ take (limit - next) offered = ap (λ k. take k offered) flipped ∙ take_min (limit - next) offered in
-    let stored = c.put-at.ensures ∙ ap (λ x. put_at next x before.bytes) accepted in
+    let stored = c.put_at.ensures ∙ ap (λ x. put_at next x before.bytes) accepted in
     let further : next + n ≡ next + length (take (limit - next) offered) = omega (arith, length-take (limit - next) offered) in
     let left : limit - (next + n) ≡ (limit - next) - length offered = omega arith in
     simp is_writing (record { count = count; became = same_write before stored further left })

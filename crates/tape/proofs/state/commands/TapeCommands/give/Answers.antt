@@ -6,28 +6,28 @@ use Rattle.tape.specs.Meaning.{model_meaning}
 use Rattle.tape.proofs.state.commands.TapeCommands.give.Goals as goal
 
 -- no more is handed out than a tape holds
-within : (c : goal.After-slice-known-in-Reading·1) → c.in-Reading.gone + c.hand-out-n.result ≤ 8192
+within : (c : goal.After-slice_known-in-Reading·1) → c.in-Reading.gone + c.hand_out-n.result ≤ 8192
 within c =
     let m = c.args.self.now in
     let gone = c.in-Reading.gone in
-    let block = c.block-at.result.now in
-    omega (arith, c.hand-out-n.ensures.count, length-drop gone block, c.block-at.ensures.fits, m.read_fits, ap bytes_read c.in-Reading.is)
+    let block = c.block_at.result.now in
+    omega (arith, c.hand_out-n.ensures.count, length-drop gone block, c.block_at.ensures.fits, m.read_fits, ap bytes_read c.in-Reading.is)
 
-within_backward : (c : goal.After-slice-known-in-ReadingBackward·1) → c.in-ReadingBackward.gone + c.hand-out-reversed-n.result ≤ 8192
+within_backward : (c : goal.After-slice_known-in-ReadingBackward·1) → c.in-ReadingBackward.gone + c.hand_out_reversed-n.result ≤ 8192
 within_backward c =
     let m = c.args.self.now in
     let gone = c.in-ReadingBackward.gone in
-    let block = c.block-at-in-ReadingBackward.result.now in
-    omega (arith, c.hand-out-reversed-n.ensures.count, length-drop gone (reverse block), length-reverse block, c.block-at-in-ReadingBackward.ensures.fits, m.read_fits, ap bytes_read c.in-ReadingBackward.is)
+    let block = c.block_at-in-ReadingBackward.result.now in
+    omega (arith, c.hand_out_reversed-n.ensures.count, length-drop gone (reverse block), length-reverse block, c.block_at-in-ReadingBackward.ensures.fits, m.read_fits, ap bytes_read c.in-ReadingBackward.is)
 
-pub overflow-add-self : goal.overflow-add-self
-overflow-add-self c = omega (arith, within c)
+pub overflow_add-self : goal.overflow_add-self
+overflow_add-self c = omega (arith, within c)
 
-pub overflow-add-self-in-ReadingBackward : goal.overflow-add-self-in-ReadingBackward
-overflow-add-self-in-ReadingBackward c = omega (arith, within_backward c)
+pub overflow_add-self-in-ReadingBackward : goal.overflow_add-self-in-ReadingBackward
+overflow_add-self-in-ReadingBackward c = omega (arith, within_backward c)
 
-pub invariant-of-self : goal.invariant-of-self
-invariant-of-self c =
+pub invariant_of-self : goal.invariant_of-self
+invariant_of-self c =
     let m = c.args.self.now in
     let is = c.in-Reading.is in
     let bytes_fit = m.bytes_fit in
@@ -35,8 +35,8 @@ invariant-of-self c =
     let on_tape = m.on_tape in
     (m.from_zero, (m.filled, (omega arith, (within c, (omega arith, (omega (arith, ap blocks_read is), (omega arith, tt)))))))
 
-pub invariant-of-self-in-ReadingBackward : goal.invariant-of-self-in-ReadingBackward
-invariant-of-self-in-ReadingBackward c =
+pub invariant_of-self-in-ReadingBackward : goal.invariant_of-self-in-ReadingBackward
+invariant_of-self-in-ReadingBackward c =
     let m = c.args.self.now in
     let is = c.in-ReadingBackward.is in
     let bytes_fit = m.bytes_fit in

@@ -1,10 +1,10 @@
 -- Areas, direct or by words: the number of rounds allowed does not matter, one step, and what stands before it.
-use Rattle.std.proofs.Common.{◌≡◌, ℕ, zero, suc, ◌+◌, ◌-◌, ◌*◌, ◌%◌, ◌<◌, ◌≤◌, min, Bool, true, false, cond, not, ◌&&◌, ltb, List, [], ◌∷◌, ◌++◌, IfOk, Ok, Err, Result, sym, refl, ap, ◌∙◌, append_assoc, arith, ltb-false, le-ltb, eqb-true}
+use Rattle.std.proofs.Common.{◌≡◌, ℕ, zero, suc, ◌+◌, ◌-◌, ◌*◌, ◌%◌, ◌<◌, ◌≤◌, min, Bool, true, false, not, ◌&&◌, ltb, List, [], ◌∷◌, ◌++◌, IfOk, Ok, Err, Result, sym, refl, ap, ◌∙◌, append_assoc, arith, ltb-false, eqb-true}
 use Rattle.format.specs.Bytes.{Reader, word_at}
 use Rattle.rules.specs.declared.place.Broken.{Broken}
 use Rattle.rules.specs.declared.pieces.Piece.{Piece}
 use Rattle.rules.specs.Rules.{unless, bind}
-use Rattle.rules.specs.Areas.{serves, onward, enters, outside, first_outside, cut, word_serves, one_word, by_words}
+use Rattle.rules.specs.Areas.{serves, onward, enters, outside, cut, one_word, by_words}
 
 pub serves_some : (back : Bool) (v : ℕ) → 0 < serves back v
 serves_some false v = omega arith

@@ -1,8 +1,8 @@
 -- A CCW and a word read byte by byte.
-use Rattle.std.proofs.Common.{◌≡◌, ℕ, ◌+◌, List, [], ◌∷◌, sym, refl, ap, ◌∙◌, arith}
+use Rattle.std.proofs.Common.{◌≡◌, ℕ, ◌+◌, List, [], ◌∷◌, refl, ap, arith}
 use Rattle.format.specs.declared.ccw.Format.{Format}
 use Rattle.format.specs.declared.ccw.Format.TheVariants.{Zero, One}
-use Rattle.format.specs.Bytes.{Reader, reader, half_word_at, three_bytes_at, word_at}
+use Rattle.format.specs.Bytes.{Reader, reader, word_at}
 use Rattle.format.specs.Layouts.{ccw_at}
 
 -- the eight bytes at an address

@@ -1,5 +1,5 @@
 -- The area of a CCW that is taken up has its shape.
-use Rattle.std.proofs.Common.{◌≡◌, ℕ, zero, suc, ◌+◌, ◌-◌, ◌%◌, ◌<◌, ◌≤◌, min, Bool, true, false, cond, not, ◌&&◌, ◌||◌, eqb, ltb, List, [], ◌∷◌, ◌++◌, IfOk, Ok, Err, Option, Result, sym, refl, ap, ◌∙◌, subst, arith}
+use Rattle.std.proofs.Common.{◌≡◌, ℕ, zero, suc, ◌+◌, ◌-◌, ◌%◌, ◌<◌, ◌≤◌, min, Bool, true, false, cond, not, ◌&&◌, eqb, ltb, List, [], ◌∷◌, IfOk, Ok, Err, Option, Result, sym, refl, ap, ◌∙◌, subst, arith}
 use Rattle.std.proofs.lemmas.Bool.{lt-ltb, le-ltb, ltb-false, ltb-true, eq-eqb, eqb-false, not-false, or_parts, or_from, both_ways}
 use Rattle.format.specs.declared.ccw.Ccw.{Ccw}
 use Rattle.format.specs.declared.ccw.Format.{Format}
@@ -11,8 +11,7 @@ use Rattle.rules.specs.declared.pieces.Piece.{Piece}
 use Rattle.rules.specs.declared.place.Broken.{Broken}
 use Rattle.rules.specs.declared.place.Place.{Place}
 use Rattle.rules.specs.declared.place.Taken.{Taken}
-use Rattle.rules.specs.Rules.{unless, bind}
-use Rattle.rules.specs.Areas.{serves, enters, onward, outside, first_outside, cut, one_word, by_words, Shaped}
+use Rattle.rules.specs.Areas.{serves, enters, onward, outside, cut, one_word, by_words, Shaped}
 use Rattle.rules.specs.TakingUp.{Cell, cell_of, answered, reach, backward, aligned, transfer_at, transfer_rules, target, found, in_force, none_in_force, is_invalid, refused_flag, pieces_of, cell_at, read_up, taken_up}
 use Rattle.rules.specs.Soundness.{Sound}
 use Rattle.rules.proofs.AreaSteps.{serves_some, unless_ok, bind_ok, word_ok, later_enters}

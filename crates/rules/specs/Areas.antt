@@ -1,7 +1,7 @@
 -- The area of a CCW. A reader must believe: it is a list of byte addresses in the order of the transfer,
 -- upward or (for read backward) downward, direct or by a list of indirect words, and it is cut into
 -- pieces, each inside one block.
-use Rattle.std.specs.Prelude.{◌≡◌, ℕ, zero, suc, ◌+◌, ◌-◌, ◌%◌, ◌<◌, min, max, Bool, true, false, cond, not, ◌&&◌, ◌||◌, List, [], ◌∷◌, ◌++◌, take, Ok, Err, Result, ◌==◌, nat_lt}
+use Rattle.std.specs.Prelude.{◌≡◌, ℕ, zero, suc, ◌+◌, ◌-◌, ◌%◌, ◌<◌, min, max, Bool, true, false, cond, not, ◌&&◌, ◌||◌, List, [], ◌∷◌, ◌++◌, take, Ok, Result, ◌==◌, nat_lt}
 use Rattle.format.specs.declared.refusal.Refusal.TheVariants.{WordOutside, WordOffBoundary, AreaOutside}
 use Rattle.format.specs.Bytes.{Reader, word_at}
 use Rattle.rules.specs.declared.place.Broken.{Broken}

@@ -3,7 +3,7 @@
 -- CCW nor reached by a TIC; 4 the code is valid, unless a command is in force; 5 no flag 08, 02 or 01;
 -- 6 the count is not 0; 7 a list address is a multiple of 4; 8 each word lies inside storage; 9 a later
 -- word enters its block; 10 the bytes lie inside storage.
-use Rattle.std.specs.Prelude.{ℕ, ◌+◌, ◌%◌, ◌^◌, min, Bool, true, false, cond, not, ◌&&◌, ◌||◌, List, [], length, Some, None, Ok, Err, Option, Result, ◌==◌, nat_lt}
+use Rattle.std.specs.Prelude.{ℕ, ◌+◌, ◌%◌, ◌^◌, min, Bool, true, false, cond, not, ◌&&◌, ◌||◌, List, length, Some, None, Ok, Err, Option, Result, ◌==◌, nat_lt}
 use Rattle.format.specs.declared.ccw.Ccw.{Ccw}
 use Rattle.format.specs.declared.ccw.Format.{Format}
 use Rattle.format.specs.declared.ccw.Format.TheVariants.{Zero, One}

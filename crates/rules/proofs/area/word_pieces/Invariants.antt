@@ -1,4 +1,4 @@
-use Rattle.std.proofs.Common.{◌≡◌, ◌+◌, ◌*◌, ◌^◌, ◌<◌, ◌≤◌, true, false}
+use Rattle.std.proofs.Common.{◌≡◌, ◌+◌, ◌*◌, ◌<◌, ◌≤◌, true, false}
 use Rattle.format.specs.Bytes.{reader}
 use Rattle.rules.specs.Areas.{listed, by_words}
 use Rattle.rules.specs.TakingUp.{reach}

@@ -1,6 +1,5 @@
-use Rattle.std.proofs.Common.{◌≡◌, ℕ, List, [], ◌∷◌, refl, ap, ◌∙◌}
+use Rattle.std.proofs.Common.{refl, ◌∙◌}
 use Rattle.format.specs.Bytes.{reader}
-use Rattle.format.specs.Layouts.{ccw_at}
 use Rattle.rules.proofs.Decoding.{ccw_from_eight}
 use Rattle.rules.proofs.storage.read_ccw.Goals as goal
 

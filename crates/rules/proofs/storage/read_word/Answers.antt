@@ -1,4 +1,4 @@
-use Rattle.std.proofs.Common.{◌≡◌, refl, ap, ◌∙◌}
+use Rattle.std.proofs.Common.{refl, ◌∙◌}
 use Rattle.format.specs.Bytes.{reader}
 use Rattle.rules.proofs.Decoding.{word_from_four}
 use Rattle.rules.proofs.storage.read_word.Goals as goal

@@ -1,5 +1,5 @@
 -- The laws of a device. A reader must believe that these are the points asked of every device.
-use Rattle.std.specs.Prelude.{◌≡◌, ℕ, ◌+◌, ◌≤◌, Bool, true, false, List, [], ◌∷◌, ◌++◌, length, take, ◌≢◌}
+use Rattle.std.specs.Prelude.{◌≡◌, ℕ, ◌+◌, ◌≤◌, Bool, true, false, List, [], ◌++◌, length, take, ◌≢◌}
 use Rattle.format.specs.Classes.{class_of, reads_storage}
 use Rattle.device.specs.declared.interface.Begun.{Begun}
 use Rattle.device.specs.declared.interface.Begun.TheVariants.{Immediate, Open}

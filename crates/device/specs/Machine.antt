@@ -1,6 +1,6 @@
 -- What a device means. A reader must believe: a device is a state, what its open command has still to
 -- move, and four fixed functions of the state.
-use Rattle.std.specs.Prelude.{ℕ, ◌-◌, List, [], ◌∷◌, drop}
+use Rattle.std.specs.Prelude.{ℕ, ◌-◌, List, [], drop}
 use Rattle.device.specs.declared.interface.Begun.{Begun}
 
 -- what the open command has still to move

@@ -1,5 +1,5 @@
 -- Moving in parts. A reader must believe: the parts of a move are moved one after the other.
-use Rattle.std.specs.Prelude.{◌≡◌, ℕ, ◌+◌, List, [], ◌∷◌, ◌++◌, length, take}
+use Rattle.std.specs.Prelude.{◌≡◌, ℕ, ◌+◌, List, [], ◌∷◌, ◌++◌, take}
 use Rattle.device.specs.Machine.{Machine, due}
 
 abbrev pub total : List ℕ → ℕ

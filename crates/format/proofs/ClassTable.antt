@@ -1,10 +1,9 @@
 -- All 256 codes at once: the classes by the rule are the table.
-use Rattle.std.proofs.Common.{◌≡◌, ℕ, ◌+◌, ◌<◌, List, [], ◌∷◌, map, length, get_or, sym, refl, ap, ◌∙◌, arith}
+use Rattle.std.proofs.Common.{◌≡◌, ℕ, ◌<◌, map, get_or, sym, refl, ap, ◌∙◌, arith}
 use Rattle.std.specs.List.{range_with_len}
 use Rattle.std.proofs.lemmas.List.FromFn.{get_or-map-range_with_len}
 use Rattle.format.specs.declared.ccw.Format.{Format}
 use Rattle.format.specs.declared.ccw.Format.TheVariants.{Zero, One}
-use Rattle.format.specs.declared.class.Class.{Class}
 use Rattle.format.specs.declared.class.Class.TheVariants.{Invalid}
 use Rattle.format.specs.Classes.{class_in, class_table}
 

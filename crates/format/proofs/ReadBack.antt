@@ -1,10 +1,10 @@
 -- What was written reads back.
-use Rattle.std.proofs.Common.{◌≡◌, ℕ, ◌+◌, ◌*◌, ◌/◌, ◌%◌, ◌^◌, ◌<◌, ◌≤◌, Bool, true, false, cond, eqb, List, [], ◌∷◌, ◌++◌, sym, refl, ap, ◌∙◌, mul-zero, mul-one, arith}
+use Rattle.std.proofs.Common.{◌≡◌, ℕ, ◌+◌, ◌*◌, ◌/◌, ◌%◌, ◌<◌, ◌≤◌, Bool, true, false, cond, eqb, sym, refl, ap, ◌∙◌, mul-zero, mul-one, arith}
 use Rattle.format.specs.declared.flags.Flags.{Flags}
 use Rattle.format.specs.declared.ccw.Ccw.{Ccw}
-use Rattle.format.specs.declared.ccw.Format.TheVariants.{Zero, One}
+use Rattle.format.specs.declared.ccw.Format.TheVariants.{One}
 use Rattle.format.specs.FlagBits.{on, flags_of, flags_byte, weight_if}
-use Rattle.format.specs.Bytes.{reader, half_word_at, word_at, half_word_bytes, word_bytes}
+use Rattle.format.specs.Bytes.{reader}
 use Rattle.format.specs.Layouts.{ccw_at, ccw_bytes}
 
 bit : Bool → ℕ

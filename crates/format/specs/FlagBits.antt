@@ -1,5 +1,5 @@
 -- The flag byte. A reader must believe: the eight weights in their order.
-use Rattle.std.specs.Prelude.{ℕ, ◌+◌, ◌/◌, ◌%◌, Bool, true, false, cond, ◌||◌, ◌==◌}
+use Rattle.std.specs.Prelude.{ℕ, ◌+◌, ◌/◌, ◌%◌, Bool, cond, ◌||◌, ◌==◌}
 use Rattle.format.specs.declared.flags.Flags.{Flags}
 
 -- whether the bit of this weight is on

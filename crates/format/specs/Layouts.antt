@@ -1,7 +1,7 @@
 -- How a CCW stands in storage. A reader must believe the two layouts:
 -- format 0: code (1 byte), address (3), flags (1), ignored (1), count (2);
 -- format 1: code (1), flags (1), count (2), address (4).
-use Rattle.std.specs.Prelude.{ℕ, ◌+◌, ◌%◌, List, [], ◌∷◌, ◌++◌}
+use Rattle.std.specs.Prelude.{ℕ, ◌+◌, ◌%◌, List, ◌∷◌, ◌++◌}
 use Rattle.format.specs.declared.ccw.Ccw.{Ccw}
 use Rattle.format.specs.declared.ccw.Format.{Format}
 use Rattle.format.specs.declared.ccw.Format.TheVariants.{Zero, One}

@@ -1,4 +1,4 @@
-use Rattle.std.proofs.Common.{◌≡◌, ◌+◌, ◌-◌, ◌<◌, ◌≤◌, min, length, sym, refl, ap, ◌∙◌, arith, length-drop, rules}
+use Rattle.std.proofs.Common.{◌≡◌, ◌+◌, ◌-◌, ◌≤◌, length, sym, ap, ◌∙◌, arith, length-drop, rules}
 use Rattle.device.specs.Machine.{due}
 use Rattle.device.proofs.Moving.{given_due, given_more, parts_are_one_move}
 use Rattle.device.proofs.skipping.skip.Goals as goal

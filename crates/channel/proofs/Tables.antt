@@ -1,9 +1,9 @@
 -- What the shape of an area gives the moves.
-use Rattle.std.proofs.Common.{◌≡◌, ℕ, zero, suc, ◌+◌, ◌-◌, ◌<◌, ◌≤◌, min, Bool, true, false, cond, not, ◌&&◌, ◌||◌, ltb, List, [], ◌∷◌, ◌++◌, map, length, get_or, take, set, sym, refl, ap, ◌∙◌, subst, arith, length-append, length-take}
+use Rattle.std.proofs.Common.{◌≡◌, ℕ, zero, suc, ◌+◌, ◌-◌, ◌<◌, ◌≤◌, Bool, true, false, not, ltb, List, [], ◌∷◌, length, get_or, take, set, sym, refl, ap, ◌∙◌, subst, arith, length-append, length-take}
 use Rattle.std.proofs.lemmas.List.{get_or-take}
 use Rattle.std.proofs.lemmas.Bool.{lt-ltb, le-ltb, ltb-false, ltb-true, not-false, or_parts, or_from}
 use Rattle.rules.specs.declared.pieces.Piece.{Piece}
-use Rattle.rules.specs.Areas.{serves, outside, area, sizes, Shaped}
+use Rattle.rules.specs.Areas.{outside, area, sizes, Shaped}
 use Rattle.rules.specs.Areas.{run as addresses}
 use Rattle.rules.proofs.AreaSteps.{serves_most}
 use Rattle.channel.specs.Moves.{lay}

@@ -1,6 +1,6 @@
 -- What one CCW does, as one move of its whole count. A reader must believe: the order in which a device
 -- begins, moves and ends, when a length is incorrect, and when a program goes on.
-use Rattle.std.specs.Prelude.{ℕ, ◌-◌, min, Bool, true, false, cond, not, ◌&&◌, ◌||◌, List, [], ◌∷◌, map, length, take, Some, None, Option, ◌==◌, slice_set}
+use Rattle.std.specs.Prelude.{ℕ, ◌-◌, min, Bool, false, cond, not, ◌&&◌, ◌||◌, List, [], ◌∷◌, map, length, take, Some, None, Option, ◌==◌, slice_set}
 use Rattle.format.specs.declared.ccw.Ccw.{Ccw}
 use Rattle.format.specs.Bytes.{reader}
 use Rattle.device.specs.declared.interface.Begun.{Begun}

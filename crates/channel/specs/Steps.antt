@@ -5,13 +5,12 @@ use Rattle.format.specs.declared.ccw.Format.{Format}
 use Rattle.format.specs.declared.status.StatusWord.{StatusWord}
 use Rattle.device.specs.Machine.{Machine}
 use Rattle.rules.specs.declared.place.Broken.{Broken}
-use Rattle.rules.specs.declared.place.Place.{Place}
 use Rattle.rules.specs.TakingUp.{Cell, taken_up}
 use Rattle.channel.specs.declared.run.Next.{Next}
 use Rattle.channel.specs.declared.run.Next.TheVariants.{Data, Command, End}
 use Rattle.channel.specs.declared.run.Run.{Run}
 use Rattle.channel.specs.declared.run.Run.TheVariants.{Running, Ended}
-use Rattle.channel.specs.Moves.{lay, addresses_of, gathered, Outcome, done}
+use Rattle.channel.specs.Moves.{lay, addresses_of, gathered, done}
 
 pub record World (m : Machine) : Type 0 where
   pub storage : List ℕ

@@ -1,5 +1,5 @@
 -- A step changes bytes of the area alone.
-use Rattle.std.proofs.Common.{◌≡◌, ℕ, List, [], ◌∷◌, get_or, set, Ok, Err, Option, Result, sym, refl, ap, ◌∙◌, subst}
+use Rattle.std.proofs.Common.{◌≡◌, ℕ, List, [], ◌∷◌, get_or, set, Ok, Err, Option, Result, sym, refl, ◌∙◌}
 use Rattle.std.proofs.lemmas.List.{get_or-set_other}
 use Rattle.format.specs.declared.ccw.Format.{Format}
 use Rattle.device.specs.Machine.{Machine}
@@ -8,7 +8,7 @@ use Rattle.rules.specs.TakingUp.{Cell, taken_up}
 use Rattle.channel.specs.declared.run.Run.{Run}
 use Rattle.channel.specs.declared.run.Run.TheVariants.{Running, Ended}
 use Rattle.channel.specs.Moves.{lay, addresses_of}
-use Rattle.channel.specs.Steps.{World, stepped_as, stepped_from, Apart, ChangedFor, ChangesOnlyArea}
+use Rattle.channel.specs.Steps.{stepped_as, stepped_from, Apart, ChangedFor, ChangesOnlyArea}
 
 pub lay_apart : (xs bs st : List ℕ) (a : ℕ) → Apart a xs → get_or (lay xs bs st) a 0 ≡ get_or st a 0
 lay_apart xs [] st a h = refl

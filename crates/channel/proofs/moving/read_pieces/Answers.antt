@@ -1,6 +1,5 @@
-use Rattle.std.proofs.Common.{◌≡◌, ℕ, ◌+◌, ◌<◌, ◌≤◌, min, true, false, List, [], ◌∷◌, ◌++◌, length, get_or, take, drop, sym, refl, ap, ◌∙◌, arith, length-take, rules}
-use Rattle.std.proofs.lemmas.List.{drop_more, drop_all, get_or-take, get_or_default}
-use Rattle.rules.specs.declared.pieces.Piece.{Piece}
+use Rattle.std.proofs.Common.{◌≡◌, ◌+◌, ◌<◌, ◌≤◌, false, [], length, get_or, drop, sym, ap, ◌∙◌, arith, length-take, rules}
+use Rattle.std.proofs.lemmas.List.{drop_all}
 use Rattle.device.specs.Machine.{due}
 use Rattle.channel.specs.Moves.{lay}
 use Rattle.rules.specs.Areas.{area}

@@ -1,4 +1,4 @@
-use Rattle.std.proofs.Common.{◌≡◌, ◌+◌, min, true, false, length, drop}
+use Rattle.std.proofs.Common.{◌≡◌, ◌+◌, min, length, drop}
 use Rattle.device.specs.Machine.{due}
 use Rattle.channel.specs.Moves.{lay}
 use Rattle.rules.specs.Areas.{area}

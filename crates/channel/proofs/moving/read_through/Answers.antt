@@ -1,4 +1,4 @@
-use Rattle.std.proofs.Common.{◌≡◌, ℕ, min, true, List, ◌++◌, length, take, drop, sym, refl, ap, ◌∙◌, arith, length-take, rules}
+use Rattle.std.proofs.Common.{◌≡◌, true, length, take, drop, sym, ap, ◌∙◌, length-take}
 use Rattle.std.proofs.lemmas.List.{take_at}
 use Rattle.device.specs.Machine.{due}
 use Rattle.channel.specs.Moves.{lay}

@@ -1,4 +1,4 @@
-use Rattle.std.proofs.Common.{◌≡◌, min, length, take, drop, sym, refl, ap, ◌∙◌, arith}
+use Rattle.std.proofs.Common.{min, length, ap, ◌∙◌, arith}
 use Rattle.device.specs.Machine.{due}
 use Rattle.channel.proofs.Laying.{length_part, piece_laid}
 use Rattle.channel.proofs.moving.read_upward.Goals as goal

@@ -1,4 +1,4 @@
-use Rattle.std.proofs.Common.{◌≡◌, min, length, sym, refl, ap, ◌∙◌}
+use Rattle.std.proofs.Common.{min, ap, ◌∙◌}
 use Rattle.device.specs.Machine.{room}
 use Rattle.channel.proofs.Laying.{length_part, piece_read}
 use Rattle.channel.proofs.moving.write_piece.Goals as goal

@@ -1,4 +1,4 @@
-use Rattle.std.proofs.Common.{◌≡◌, ℕ, ◌+◌, ◌<◌, ◌≤◌, min, true, false, List, [], ◌∷◌, ◌++◌, map, length, get_or, take, drop, sym, refl, ap, ◌∙◌, arith, length-take, rules, ltb-false}
+use Rattle.std.proofs.Common.{◌≡◌, ◌+◌, ◌<◌, ◌≤◌, false, [], map, length, get_or, drop, sym, ap, ◌∙◌, arith, length-take, rules, ltb-false}
 use Rattle.std.proofs.lemmas.List.{drop_all}
 use Rattle.format.specs.Bytes.{reader}
 use Rattle.rules.specs.Areas.{area}

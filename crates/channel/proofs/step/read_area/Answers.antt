@@ -1,4 +1,4 @@
-use Rattle.std.proofs.Common.{◌≡◌, ◌≤◌, min, length, sym, refl, ap, ◌∙◌, arith, length-take}
+use Rattle.std.proofs.Common.{◌≡◌, ◌≤◌, min, length, sym, ap, ◌∙◌, arith, length-take}
 use Rattle.format.specs.Classes.{backwards}
 use Rattle.device.specs.Machine.{due}
 use Rattle.rules.specs.Areas.{listed, area}

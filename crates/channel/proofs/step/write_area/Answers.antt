@@ -1,4 +1,4 @@
-use Rattle.std.proofs.Common.{◌≡◌, ◌≤◌, min, false, map, length, sym, refl, ap, ◌∙◌, subst, arith}
+use Rattle.std.proofs.Common.{◌≡◌, ◌≤◌, min, false, map, length, sym, ap, ◌∙◌, subst, arith}
 use lib.ListN.{length-map}
 use Rattle.format.specs.Bytes.{reader}
 use Rattle.device.specs.Machine.{room}

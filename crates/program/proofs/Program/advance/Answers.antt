@@ -1,4 +1,4 @@
-use Rattle.std.proofs.Common.{◌≡◌, ℕ, suc, ◌+◌, ◌-◌, ◌<◌, ◌≤◌, Bool, true, false, not, ltb, sym, refl, ap, ◌∙◌, subst, inl, inr, arith, rules}
+use Rattle.std.proofs.Common.{◌≡◌, ℕ, suc, ◌+◌, ◌-◌, ◌<◌, not, ltb, sym, ap, ◌∙◌, subst, inl, inr, arith, rules}
 use Rattle.std.proofs.lemmas.Bool.{ltb-true, ltb-false, and_parts, and_cases, not-true, not-false}
 use Rattle.channel.specs.Steps.{World, stepped, is_ended, advanced, Counted}
 use Rattle.program.proofs.Advancing.{advanced_none, advanced_ended, advanced_step, counted}

@@ -9,7 +9,6 @@ ghost use Rattle.tape_driver.specs.Theorems.{after_begin, after_rewind, after_wr
 
 use device::interface::Device;
 use tape::state::Tape;
-use tape::state::commands::TapeCommands;
 
 const WRITE: u8 = 0x01;
 

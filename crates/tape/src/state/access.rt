@@ -3,7 +3,6 @@ ghost use Rattle.tape.specs.Cutting.{Holdable, LengthsFit, StartsOf, cut};
 ghost use Rattle.tape.specs.TapeMachine.{at_first};
 ghost use Rattle.tape.specs.Meaning.{meaning, model_meaning, block_at};
 
-use super::commands::TapeCommands;
 use super::{BLOCKS, BOUNDS, CAPACITY, LONGEST, Phase, Tape, TapeModel};
 use unit::state::Unit;
 

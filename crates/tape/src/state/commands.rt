@@ -7,7 +7,7 @@ ghost use Rattle.tape.specs.declared.state.Phase.TheVariants.{Writing};
 use super::{BLOCKS, CAPACITY, LONGEST, Phase, TapeModel};
 use crate::reversing::hand_out_reversed;
 use unit::copying::{append, hand_out};
-use unit::model::{Finished, Model, Started};
+use unit::model::{Finished, Model as DeviceModel, Started};
 
 // No block or no byte is left where the command needs one.
 fn nothing_left() -> Started
@@ -84,7 +84,7 @@ impl TapeModel {
     }
 }
 
-pub impl Model for TapeModel as TapeCommands {
+impl DeviceModel for TapeModel {
     ghost core = { tape_core };
 
     ghost laws = { tape_laws };

@@ -1,5 +1,5 @@
 use Rattle.std.proofs.Common.{◌≡◌, ◌+◌, ◌-◌, ◌≤◌, min, [], ◌++◌, reverse, length, take, drop, sym, ap, ◌∙◌, arith, length-drop}
-use lib.Seq.{take-nil}
+use Rattle.std.proofs.Math.Seq.{take-nil}
 use Rattle.std.proofs.lemmas.List.{drop_all, length-reverse}
 use Rattle.unit.proofs.Parts.{take_min, left_after}
 use Rattle.tape.proofs.Reversed.{take-reverse, drop-reverse}

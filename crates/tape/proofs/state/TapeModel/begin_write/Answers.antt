@@ -18,7 +18,15 @@ invariant_of-self c =
     let room = and_parts _ _ (sym c.has_room.ensures ∙ c.if-not-has_room.false) in
     let few = ltb-true m.position 64 room.0 in
     let end : get_or m.starts m.position 0 ≤ 8192 = end_within m m.position (omega arith) in
-    (m.from_zero, (λ k h. m.filled k (omega arith), (omega arith, (omega arith, (omega arith, (omega arith, (omega arith, tt)))))))
+    record {
+      from_zero = m.from_zero;
+      filled = λ k h. m.filled k (omega arith);
+      bytes_fit = omega arith;
+      read_fits = omega arith;
+      blocks_fit = omega arith;
+      on_tape = omega arith;
+      past_first = omega arith;
+    }
 
 pub returns : goal.returns
 returns c =

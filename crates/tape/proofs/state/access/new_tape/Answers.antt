@@ -27,7 +27,15 @@ invariant_of-new c =
     let last = last_start lengths starts found.1 in
     let few = found.0.few in
     let small = found.0.small in
-    (found.1 0 (omega arith), (rising lengths starts found.1 found.0, (omega arith, (omega arith, (omega arith, (omega arith, (omega arith, tt)))))))
+    record {
+      from_zero = found.1 0 (omega arith);
+      filled = rising lengths starts found.1 found.0;
+      bytes_fit = omega arith;
+      read_fits = omega arith;
+      blocks_fit = omega arith;
+      on_tape = omega arith;
+      past_first = omega arith;
+    }
 
 pub returns : goal.returns
 returns c =

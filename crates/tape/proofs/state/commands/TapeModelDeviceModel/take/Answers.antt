@@ -3,7 +3,7 @@ use Rattle.device.specs.Machine.{room}
 use Rattle.tape.specs.TapeMachine.{pending_during}
 use Rattle.tape.specs.Meaning.{blocks_of}
 use Rattle.tape.proofs.Tapes.{command_here, room_left, takes_count, takes_state}
-use Rattle.tape.proofs.state.commands.TapeCommands.take.Goals as goal
+use Rattle.tape.proofs.state.commands.TapeModelDeviceModel.take.Goals as goal
 
 pub returns-in-Writing : goal.returns-in-Writing
 returns-in-Writing c =

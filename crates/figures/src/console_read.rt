@@ -2,7 +2,6 @@ ghost use Rattle.std.specs.Prelude.{◌≡◌};
 ghost use Rattle.figures.specs.Cases.{read_program, read_answer, WorkedCases};
 
 use console::state::access::new_console;
-use console::state::commands::ConsoleCommands;
 use format::ccw::Format;
 use format::status::StatusWord;
 use program::Program;

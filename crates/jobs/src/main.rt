@@ -14,12 +14,10 @@ mod units;
 mod watched;
 
 use disk::state::access::zero_disk;
-use disk::state::commands::DiskCommands;
 use programs::console::{CONSOLE_JOBS, DAMAGED, HALTS};
 use programs::disk::DISK_JOBS;
 use programs::tape::TAPE_JOBS;
 use running::{halt_job, run_console_job, run_damaged, run_jobs};
-use tape::state::commands::TapeCommands;
 use units::empty_tape;
 use watched::Watched;
 

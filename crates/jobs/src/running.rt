@@ -3,7 +3,6 @@ use super::report::{show_changes, show_status, show_unit, show_word};
 use super::trace::trace;
 use super::units::{Shown, console_with};
 use super::watched::Watched;
-use console::state::commands::ConsoleCommands;
 use format::ccw::Format;
 use program::Program;
 use std::io;

@@ -10,7 +10,7 @@ ghost use Rattle.disk_driver.specs.Theorems.{NotLocated, ReadReturnsWhatWasWritt
 use device::interface::Device;
 use disk::blocks::{Location, range_exists};
 use disk::state::Disk;
-use disk::state::commands::{DiskCommands, LOCATE, READ, WRITE};
+use disk::state::commands::{LOCATE, READ, WRITE};
 
 // Locates blocks, and answers the status.
 fn locate(disk: &mut Disk, location: Location) -> u8

@@ -2,7 +2,6 @@ ghost use Rattle.std.specs.Prelude.{◌≡◌, ◌<◌, ◌≤◌, length, take,
 ghost use Rattle.console.specs.ConsoleMachine.{at_first};
 ghost use Rattle.console.specs.Meaning.{meaning, model_meaning};
 
-use super::commands::ConsoleCommands;
 use super::{Console, ConsoleModel, LINE, PAPER, Phase};
 use unit::state::Unit;
 

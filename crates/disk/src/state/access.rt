@@ -4,7 +4,6 @@ ghost use Rattle.disk.specs.DiskMachine.{at_first};
 ghost use Rattle.disk.specs.DiskState.{Whole};
 ghost use Rattle.disk.specs.Meaning.{meaning, model_meaning};
 
-use super::commands::DiskCommands;
 use super::{Disk, DiskModel, PARAMETERS, Phase};
 use crate::blocks::{BLOCKS, Location, STORE_SIZE, block_of};
 use unit::state::Unit;

@@ -1,7 +1,7 @@
 use Rattle.std.proofs.Common.{◌++◌, length, sym, refl, ap, inl, inr, arith}
-use lib.Seq.{take-nil}
+use Rattle.std.proofs.Math.Seq.{take-nil}
 use Rattle.disk.specs.Meaning.{model_meaning}
-use Rattle.disk.proofs.state.commands.DiskCommands.give.Goals as goal
+use Rattle.disk.proofs.state.commands.DiskModelCommands.give.Goals as goal
 
 pub returns-in-Idle : goal.returns-in-Idle
 returns-in-Idle c =

@@ -1,7 +1,7 @@
 use Rattle.std.proofs.Common.{◌++◌, length, sym, refl, ap, inl, inr, arith}
-use lib.Seq.{take-nil}
+use Rattle.std.proofs.Math.Seq.{take-nil}
 use Rattle.console.specs.Meaning.{model_meaning}
-use Rattle.console.proofs.state.commands.ConsoleCommands.give.Goals as goal
+use Rattle.console.proofs.state.commands.ConsoleModelCommands.give.Goals as goal
 
 pub returns-in-Idle : goal.returns-in-Idle
 returns-in-Idle c =

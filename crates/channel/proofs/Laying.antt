@@ -1,7 +1,7 @@
 -- Bytes laid and gathered piece by piece.
 use Rattle.std.proofs.Common.{◌≡◌, ℕ, zero, suc, ◌+◌, ◌-◌, ◌<◌, ◌≤◌, min, Bool, true, false, List, [], ◌∷◌, ◌++◌, map, length, get_or, take, drop, set, sym, refl, ap, ◌∙◌, append_assoc, arith, length-drop, length-set, take-append-drop, length-take, drop-set-lt}
-use lib.ListN.{length-map}
-use lib.Seq.{drop-nil}
+use Rattle.std.proofs.Math.ListN.{length-map}
+use Rattle.std.proofs.Math.Seq.{drop-nil}
 use Rattle.std.proofs.lemmas.List.{take_more_set, drop-drop, drop-append-le, drop_more, get_or-take, map-append}
 use borrow.Rule.Slice.PartMut.{put_mid}
 use Rattle.device.specs.Machine.{Machine, due, room}

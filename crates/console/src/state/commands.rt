@@ -4,9 +4,9 @@ ghost use Rattle.console.specs.Meaning.{model_meaning};
 
 use super::{ConsoleModel, PAPER, Phase};
 use unit::copying::{append, hand_out};
-use unit::model::{Finished, Model as Commands, Started};
+use unit::model::{Finished, Model as DeviceModel, Started};
 
-impl Commands for ConsoleModel {
+impl DeviceModel for ConsoleModel {
     ghost core = { console_core };
 
     ghost laws = { console_laws };

@@ -7,7 +7,7 @@ ghost use Rattle.disk.specs.Meaning.{model_meaning};
 use super::{DiskModel, PARAMETERS, Phase};
 use crate::blocks::{Location, address_of, put_at, range_exists};
 use unit::copying::{append, hand_out};
-use unit::model::{Finished, Model as Commands, Started};
+use unit::model::{Finished, Model as DeviceModel, Started};
 
 // The command codes.
 pub const LOCATE: u8 = 0x43;
@@ -90,7 +90,7 @@ impl DiskModel {
     }
 }
 
-impl Commands for DiskModel {
+impl DeviceModel for DiskModel {
     ghost core = { disk_core };
 
     ghost laws = { disk_laws };

@@ -1,5 +1,5 @@
 use Rattle.std.proofs.Common.{◌≡◌, ◌≤◌, min, false, map, length, sym, ap, ◌∙◌, subst, arith}
-use lib.ListN.{length-map}
+use Rattle.std.proofs.Math.ListN.{length-map}
 use Rattle.format.specs.Bytes.{reader}
 use Rattle.device.specs.Machine.{room}
 use Rattle.rules.specs.Areas.{listed, area, sizes, Shaped}

@@ -1,5 +1,5 @@
 use Rattle.std.proofs.Common.{◌≡◌, ℕ, List, [], ◌∷◌, ◌++◌, length, take, drop, set, sym, refl, ap, arith}
-use lib.Seq.{take-nil}
+use Rattle.std.proofs.Math.Seq.{take-nil}
 use Rattle.unit.specs.UnitMachine.{sense_given}
 use Rattle.unit.specs.declared.state.Sensing.TheVariants.{Unread, Read}
 use Rattle.unit.proofs.state.commands.give_sense.Goals as goal

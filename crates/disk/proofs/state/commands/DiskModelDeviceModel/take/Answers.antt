@@ -4,7 +4,7 @@ use Rattle.disk.specs.Blocks.{put_at}
 use Rattle.disk.specs.DiskState.{DiskState, writing}
 use Rattle.disk.specs.DiskMachine.{with_store}
 use Rattle.disk.specs.Meaning.{model_meaning}
-use Rattle.disk.proofs.state.commands.DiskModelCommands.take.Goals as goal
+use Rattle.disk.proofs.state.commands.DiskModelDeviceModel.take.Goals as goal
 
 same_write : (s : DiskState) {x y : List ℕ} {a b m n : ℕ} → x ≡ y → a ≡ b → m ≡ n → with_store x (writing a m) s ≡ with_store y (writing b n) s
 same_write s p q r = cc

@@ -1,7 +1,7 @@
 use Rattle.std.proofs.Common.{◌++◌, length, sym, refl, ap, inl, inr, arith}
 use Rattle.std.proofs.Math.Seq.{take-nil}
-use Rattle.disk.specs.Meaning.{model_meaning}
-use Rattle.disk.proofs.state.commands.DiskModelCommands.give.Goals as goal
+use Rattle.console.specs.Meaning.{model_meaning}
+use Rattle.console.proofs.state.commands.ConsoleModelDeviceModel.give.Goals as goal
 
 pub returns-in-Idle : goal.returns-in-Idle
 returns-in-Idle c =
@@ -10,9 +10,5 @@ returns-in-Idle c =
     let stays = refl {a = model_meaning c.args.self.now} in
     elim c.in-Idle.is [
       | inl e ↦ simp e (record { count = omega arith; bytes = nothing; became = simp e at stays })
-      | inr other ↦
-          elim other [
-            | inl w ↦ let e = w.1 in simp e (record { count = omega arith; bytes = nothing; became = simp e at stays })
-            | inr w ↦ let e = w.2 in simp e (record { count = omega arith; bytes = nothing; became = simp e at stays })
-          ]
+      | inr e ↦ simp e (record { count = omega arith; bytes = nothing; became = simp e at stays })
     ]

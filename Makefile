@@ -1,18 +1,21 @@
 # run: prove the entry point and run it.  maps: the same for the tour of maps.  check: daily work.  test: the gate.
-.PHONY: run maps check test
+# second: the tests of the second implementation, in plain Rust.
+.PHONY: run maps check test second
 
 run: PROGRAM = jobs
 maps: PROGRAM = map_tour
 run maps:
 	@mkdir -p target
-	@rt check $(PROGRAM) > target/$@.log 2>&1 || { cat target/$@.log; exit 1; }
-	@target/bin/$(PROGRAM)
+	@cd crates/$(PROGRAM) && rt run 2> ../../target/$@.log || { cat ../../target/$@.log; exit 1; }
 
-# Proves what changed, runs the programs and tests; takes over what stayed.
+# Proves what changed, lowest crates first; takes over what stayed.
 check:
-	rt check
+	@rt all check
 
-# Proves every crate from nothing, tries every must-fail edit, runs the programs and tests.
-# Its last line is 'N passed, 0 failed'; anything else makes it fail.
+# Proves every crate from nothing, tries every must-fail edit, runs the programs. Its last line is
+# 'N passed, 0 failed'; anything else makes it fail.
 test:
-	@rt ci
+	@tools/gate.sh
+
+second:
+	@cd second && cargo test --offline --quiet

@@ -11,16 +11,18 @@ invariant_of-self c =
     let frame = c.args.frame in
     let lists = c.exchange.ensures.listed in
     let marks = c.exchange.ensures.flags in
-    let l = put_lawful _ _ page frame _ _ (table_lawful t) (table_put t page frame c.exchange.new.listed c.exchange.new.flags lists marks (omega arith) c.if-self-frame.true) in (
-      t.some,
-      (
-        (
-          ap length lists ∙ length-set t.listed page frame ∙ t.sizes.0,
-          ap length marks ∙ length-set (set t.flags frame false) _ true ∙ length-set t.flags frame false ∙ t.sizes.1,
-        ),
-        (l.2, (l.3, (l.4, (l.5, tt)))),
-      ),
-    )
+    let l = put_lawful _ _ page frame _ _ (table_lawful t) (table_put t page frame c.exchange.new.listed c.exchange.new.flags lists marks (omega arith) c.if-self-frame.true) in
+    record {
+      some = t.some;
+      sizes = (
+        ap length lists ∙ length-set t.listed page frame ∙ t.sizes.0,
+        ap length marks ∙ length-set (set t.flags frame false) _ true ∙ length-set t.flags frame false ∙ t.sizes.1,
+      );
+      ranged = l.2;
+      distinct = l.3;
+      kept = l.4;
+      spare = l.5;
+    }
 
 pub returns-then-self-frame : goal.returns-then-self-frame
 returns-then-self-frame c =

@@ -7,7 +7,14 @@ invariant_of-result c =
     let first = c.args.first in
     let count = c.args.count in
     let l = run_lawful first count (omega arith) (omega arith) (omega arith) (omega arith) in
-    ((omega arith, omega arith), (omega arith, (run_long first count, (run_each first count, (l.2, (l.3, tt))))))
+    record {
+      some = (omega arith, omega arith);
+      last = omega arith;
+      long = run_long first count;
+      each = run_each first count;
+      ranged = l.2;
+      distinct = l.3;
+    }
 
 pub returns-then-first-eq0 : goal.returns-then-first-eq0
 returns-then-first-eq0 c = (refl, (λ l. let bounds = run_bounds c.args.first c.args.count l in search rules))

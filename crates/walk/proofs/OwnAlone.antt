@@ -1,5 +1,5 @@
 -- A walk reads the program's own bytes alone.
-use Rattle.std.proofs.Common.{◌≡◌, ℕ, zero, suc, ◌+◌, ◌-◌, ◌*◌, ◌%◌, ◌^◌, ◌<◌, ◌≤◌, min, Bool, true, false, cond, not, eqb, ltb, ◌⊎◌, List, [], ◌∷◌, ◌++◌, length, get_or, Some, None, Ok, Err, Option, Result, sym, refl, ap, ◌∙◌, subst, inl, inr, append_assoc, arith, length-append}
+use Rattle.std.proofs.Common.{◌≡◌, ℕ, zero, suc, ◌+◌, ◌-◌, ◌*◌, ◌%◌, ◌^◌, ◌<◌, ◌≤◌, min, Bool, true, false, cond, not, eqb, ltb, ◌⊎◌, List, [], ◌∷◌, ◌++◌, length, Some, None, Ok, Option, Result, sym, refl, ap, ◌∙◌, subst, inl, inr, append_assoc, arith, length-append}
 use Rattle.std.proofs.lemmas.List.{get_or_at, get_or_append_left}
 use Rattle.std.proofs.lemmas.Bool.{both_ways}
 use Rattle.format.specs.declared.ccw.Ccw.{Ccw}
@@ -12,12 +12,11 @@ use Rattle.rules.specs.declared.pieces.Piece.{Piece}
 use Rattle.rules.specs.declared.place.Broken.{Broken}
 use Rattle.rules.specs.Rules.{unless, bind}
 use Rattle.rules.specs.Areas.{word_serves, one_word, by_words}
-use Rattle.rules.specs.TakingUp.{Cell, reach, is_transfer, backward, in_force, transfer_at, found, pieces_of, cell_at, read_up}
+use Rattle.rules.specs.TakingUp.{Cell, reach, is_transfer, backward, in_force, transfer_at, found, pieces_of, read_up}
 use Rattle.format.specs.Classes.{class_of}
 use Rattle.rules.proofs.AreaSteps.{unless_ok, bind_ok}
 use Rattle.rules.proofs.Passing.{Aligned, Finds, found_ok, found_again, read_up_from}
-use Rattle.rules.proofs.Shapes.{ReadUp, read_up_ok}
-use Rattle.walk.specs.declared.own_bytes.Extent.{Extent}
+use Rattle.rules.proofs.Shapes.{read_up_ok}
 use Rattle.walk.specs.OwnBytes.{ccw_extent, list_extent, extents_of, Own}
 use Rattle.walk.specs.SoundTrails.{no_cell, cell, OwnBytesAlone}
 use Rattle.walk.specs.Walks.{Trail, met, goes_on, carried, Seen, again, fresh, look_at, one_place, with_cell, onward, walk}

@@ -1,5 +1,5 @@
 -- What a walk that came to its end says of its CCWs.
-use Rattle.std.proofs.Common.{◌≡◌, ℕ, zero, suc, ◌+◌, ◌-◌, ◌%◌, ◌<◌, ◌≤◌, Bool, true, false, cond, ◌&&◌, eqb, ltb, ◌⊎◌, List, [], ◌∷◌, ◌++◌, length, get_or, Some, None, Ok, Err, Option, Result, sym, refl, ap, ◌∙◌, subst, inl, inr, append_assoc, arith, length-append}
+use Rattle.std.proofs.Common.{◌≡◌, ℕ, zero, suc, ◌+◌, ◌-◌, ◌<◌, ◌≤◌, Bool, true, false, cond, ◌&&◌, eqb, ◌⊎◌, List, [], ◌∷◌, ◌++◌, length, Some, None, Ok, Option, Result, sym, refl, ap, ◌∙◌, subst, inl, inr, append_assoc, arith, length-append}
 use Rattle.std.proofs.lemmas.Bool.{cases_Bool, and_parts, eqb-true, eqb-false, ltb-false, both_ways}
 use Rattle.std.proofs.lemmas.List.{get_or_at, length_push}
 use Rattle.format.specs.declared.ccw.Ccw.{Ccw}
@@ -8,14 +8,13 @@ use Rattle.format.specs.Bytes.{Reader}
 use Rattle.format.specs.Classes.{class_of}
 use Rattle.format.specs.Layouts.{ccw_at}
 use Rattle.rules.specs.declared.place.Broken.{Broken}
-use Rattle.rules.specs.Rules.{bind}
 use Rattle.rules.specs.Soundness.{Sound}
 use Rattle.rules.specs.TakingUp.{Cell, is_transfer, is_invalid, in_force, none_in_force, transfer_at, found, cell_at, read_up}
 use Rattle.rules.proofs.AreaSteps.{bind_ok}
 use Rattle.rules.proofs.Passing.{found_no_transfer}
-use Rattle.rules.proofs.Shapes.{ReadUp, read_up_ok, read_sound, found_inside}
+use Rattle.rules.proofs.Shapes.{read_up_ok, read_sound, found_inside}
 use Rattle.walk.specs.Walks.{Trail, same_command, same_place, met, goes_on, carried, Seen, again, fresh, one_place, with_cell, onward, walk}
-use Rattle.walk.specs.SoundTrails.{no_cell, cell, pieces_in, Proper, Leads, Following, SoundTrail}
+use Rattle.walk.specs.SoundTrails.{no_cell, cell, pieces_in, Proper, Following, SoundTrail}
 use Rattle.walk.proofs.Trails.{Looked, look_ok}
 
 same_command_true : (p q : Option ℕ) → same_command p q ≡ true → p ≡ q

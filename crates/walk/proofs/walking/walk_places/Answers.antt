@@ -1,8 +1,8 @@
-use Rattle.std.proofs.Common.{◌≡◌, ℕ, suc, ◌+◌, ◌-◌, ◌<◌, ◌≤◌, Bool, true, false, List, [], ◌∷◌, ◌++◌, length, Some, None, Ok, Err, sym, refl, ap, ◌∙◌, subst, arith, rules}
+use Rattle.std.proofs.Common.{◌≡◌, suc, ◌+◌, ◌-◌, false, [], ◌∷◌, ◌++◌, length, None, Ok, sym, ap, ◌∙◌, subst, arith}
 use Rattle.std.proofs.lemmas.Result.{err_from_is_err_and}
 use Rattle.format.specs.Bytes.{reader}
 use Rattle.rules.specs.TakingUp.{reach, cell_of}
-use Rattle.walk.specs.declared.cells.Visit.TheVariants.{Met, Fresh}
+use Rattle.walk.specs.declared.cells.Visit.TheVariants.{Fresh}
 use Rattle.walk.specs.Walks.{cells_of, walk, seen_of, Fits}
 use Rattle.walk.proofs.Trails.{with_cells, place_on, place_last, place_met, place_off}
 use Rattle.walk.proofs.walking.walk_places.Goals as goal

@@ -1,4 +1,4 @@
-use Rattle.std.proofs.Common.{◌≡◌, ◌+◌, ◌<◌, ◌≤◌, length, get_or, drop, Some, sym, refl, ap, ◌∙◌, arith, length-take, rules}
+use Rattle.std.proofs.Common.{◌+◌, ◌<◌, ◌≤◌, length, get_or, drop, Some, sym, ap, ◌∙◌, arith, length-take, rules}
 use Rattle.std.proofs.lemmas.List.{drop_all}
 use Rattle.walk.specs.OwnBytes.{extents_in, touched}
 use Rattle.walk.proofs.Touching.{next_entry, touched_here, touched_later, touched_none, no_extent}

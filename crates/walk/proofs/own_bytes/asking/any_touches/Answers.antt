@@ -1,4 +1,4 @@
-use Rattle.std.proofs.Common.{◌≡◌, ◌+◌, ◌<◌, ◌≤◌, true, false, length, get_or, drop, is_some, sym, refl, ap, ◌∙◌, arith, length-take, rules}
+use Rattle.std.proofs.Common.{◌≡◌, ◌+◌, ◌<◌, ◌≤◌, length, get_or, drop, is_some, sym, ap, ◌∙◌, arith, length-take, rules}
 use Rattle.std.proofs.lemmas.List.{drop_all}
 use Rattle.rules.specs.Areas.{listed}
 use Rattle.walk.specs.OwnBytes.{extents_in, touched, lowest, any_touched}

@@ -1,6 +1,6 @@
-use Rattle.std.proofs.Common.{◌≡◌, [], ◌∷◌, ◌++◌, sym, refl, ap, ◌∙◌, append_assoc, arith}
+use Rattle.std.proofs.Common.{[], ◌∷◌, ◌++◌, ap, ◌∙◌, append_assoc, arith}
 use Rattle.rules.specs.TakingUp.{cell_of}
-use Rattle.walk.specs.OwnBytes.{extents_in, ccw_extent, list_extent}
+use Rattle.walk.specs.OwnBytes.{extents_in, ccw_extent}
 use Rattle.walk.proofs.own_bytes.asking.push_cell.Goals as goal
 
 pub returns : goal.returns

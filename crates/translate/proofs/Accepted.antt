@@ -1,5 +1,5 @@
 -- What the walk says of an accepted program, as the frame needs it.
-use Rattle.std.proofs.Common.{◌≡◌, ℕ, zero, suc, ◌+◌, ◌-◌, ◌^◌, ◌<◌, ◌≤◌, min, Bool, true, false, not, ◌||◌, ltb, List, [], ◌∷◌, ◌++◌, map, length, Some, None, Ok, Option, sym, refl, ap, ◌∙◌, subst, inl, inr, arith, length-append}
+use Rattle.std.proofs.Common.{◌≡◌, ℕ, suc, ◌+◌, ◌-◌, ◌^◌, ◌<◌, ◌≤◌, Bool, true, false, not, ◌||◌, ltb, List, [], ◌∷◌, ◌++◌, map, length, Some, None, Ok, Option, refl, ap, ◌∙◌, inl, inr, arith, length-append}
 use lib.ListN.{length-map}
 use Rattle.std.proofs.lemmas.List.{length_push}
 use Rattle.std.proofs.lemmas.Bool.{cases_Bool, ltb-true, ltb-false, both_ways}
@@ -8,7 +8,7 @@ use Rattle.rules.specs.declared.pieces.Piece.{Piece}
 use Rattle.rules.specs.Areas.{serves, outside, Shaped}
 use Rattle.rules.specs.Soundness.{Sound}
 use Rattle.rules.specs.TakingUp.{Cell, reach, backward}
-use Rattle.walk.specs.SoundTrails.{cell, pieces_in, SoundTrail}
+use Rattle.walk.specs.SoundTrails.{cell, pieces_in}
 use Rattle.walk.specs.Walks.{Trail, goes_on, carried}
 use Rattle.walk.proofs.SoundTrails.{Way, walks, sound_trail}
 use Rattle.map.specs.Places.{end_of}

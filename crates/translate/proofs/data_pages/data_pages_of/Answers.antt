@@ -1,4 +1,4 @@
-use Rattle.std.proofs.Common.{◌≡◌, ℕ, ◌+◌, ◌<◌, ◌≤◌, Bool, false, ◌||◌, length, get_or, drop, replicate, sym, refl, ap, ◌∙◌, arith, length-take, rules}
+use Rattle.std.proofs.Common.{◌+◌, ◌<◌, ◌≤◌, false, ◌||◌, length, get_or, drop, sym, ap, ◌∙◌, arith, length-take, rules}
 use lib.ListN.{length-map}
 use Rattle.std.proofs.lemmas.List.FromFn.{fill_by_all}
 use Rattle.std.proofs.lemmas.List.{drop_all, get_or-replicate, length-replicate}

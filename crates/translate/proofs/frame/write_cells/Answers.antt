@@ -1,4 +1,4 @@
-use Rattle.std.proofs.Common.{◌≡◌, ◌+◌, ◌*◌, ◌<◌, ◌≤◌, length, get_or, drop, sym, ap, ◌∙◌, arith, length-take, rules}
+use Rattle.std.proofs.Common.{◌+◌, ◌*◌, ◌<◌, ◌≤◌, length, get_or, drop, sym, ap, ◌∙◌, arith, length-take, rules}
 use lib.ListN.{length-map}
 use Rattle.std.proofs.lemmas.List.{drop_all}
 use Rattle.format.specs.Layouts.{ccw_bytes}
@@ -6,7 +6,7 @@ use Rattle.rules.specs.Areas.{listed}
 use Rattle.rules.specs.TakingUp.{cell_of}
 use Rattle.walk.specs.Walks.{cells_of}
 use Rattle.walk.proofs.Trails.{next_cell}
-use Rattle.translate.specs.Frames.{cell_ccw, cells_bytes, behind_list}
+use Rattle.translate.specs.Frames.{cells_bytes, behind_list}
 use Rattle.translate.specs.Writing.{put_at}
 use Rattle.translate.proofs.Puts.{put_cell, put_none, no_cells}
 use Rattle.translate.proofs.frame.write_cells.Goals as goal

@@ -4,7 +4,7 @@ use Rattle.format.specs.Bytes.{word_bytes}
 use Rattle.rules.specs.Areas.{listed}
 use Rattle.map.specs.Places.{end_of, place_of}
 use Rattle.walk.proofs.Touching.{next_entry, no_piece}
-use Rattle.translate.specs.Frames.{first_of, words_bytes}
+use Rattle.translate.specs.Frames.{first_of}
 use Rattle.translate.specs.Writing.{put_at}
 use Rattle.translate.proofs.Puts.{put_word, put_none, no_words, piece_below, host_words}
 use Rattle.translate.proofs.frame.write_list.Goals as goal

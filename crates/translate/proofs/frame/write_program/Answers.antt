@@ -1,4 +1,4 @@
-use Rattle.std.proofs.Common.{◌≡◌, ◌+◌, ◌*◌, ◌≤◌, ◌++◌, length, sym, ap, ◌∙◌, arith}
+use Rattle.std.proofs.Common.{◌≡◌, ◌+◌, ◌*◌, ◌++◌, length, ap, ◌∙◌, arith}
 use Rattle.walk.specs.Walks.{cells_of}
 use Rattle.translate.specs.Frames.{cells_bytes, closing_bytes}
 use Rattle.translate.specs.Writing.{put_at}

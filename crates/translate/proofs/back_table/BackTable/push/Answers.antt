@@ -6,7 +6,7 @@ use Rattle.translate.proofs.back_table.BackTable.push.Goals as goal
 pub invariant_of-self : goal.invariant_of-self
 invariant_of-self c =
     let t = c.args.self.now in
-    (omega arith, (set_below 2147483648 t.addresses t.len c.args.address t.inside c.requires.1, tt))
+    record { short = omega arith; inside = set_below 2147483648 t.addresses t.len c.args.address t.inside c.requires.1 }
 
 pub returns : goal.returns
 returns c =

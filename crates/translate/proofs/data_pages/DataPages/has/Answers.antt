@@ -1,4 +1,4 @@
-use Rattle.std.proofs.Common.{◌≡◌, ◌≤◌, false, length, sym, arith, rules}
+use Rattle.std.proofs.Common.{◌≡◌, false, length, sym, arith, rules}
 use Rattle.std.proofs.lemmas.List.{get_or_past}
 use Rattle.translate.proofs.data_pages.DataPages.has.Goals as goal
 

@@ -1,4 +1,4 @@
-use Rattle.std.proofs.Common.{◌≡◌, ℕ, ◌+◌, ◌/◌, ◌<◌, ◌≤◌, Bool, true, false, ◌||◌, List, length, get_or, drop, set, sym, ap, ◌∙◌, subst, arith, length-set, length-take, rules}
+use Rattle.std.proofs.Common.{◌+◌, ◌/◌, ◌<◌, ◌≤◌, true, false, ◌||◌, length, get_or, drop, sym, ap, ◌∙◌, arith, length-set, length-take, rules}
 use Rattle.std.proofs.lemmas.List.{drop_all}
 use Rattle.rules.specs.Areas.{listed}
 use Rattle.translate.specs.Translations.{piece_in}

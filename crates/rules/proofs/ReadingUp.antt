@@ -1,7 +1,7 @@
 -- Rules 4 to 10 one after the other: once rules 4 to 6 are kept, the answer is that of the area.
 use Rattle.std.proofs.Common.{◌≡◌, ◌≢◌, ℕ, Bool, true, false, not, ◌&&◌, ◌==◌, List, Some, None, Ok, Option, Result, refl, sym, ap, ◌∙◌, inl, inr}
 use Rattle.std.proofs.lemmas.Bool.Decides.{eqb_tells}
-use Rattle.std.specs.Option.{is_some, unwrap_or}
+use Rattle.std.specs.Option.{is_some}
 use Rattle.format.specs.declared.ccw.Ccw.{Ccw}
 use Rattle.format.specs.declared.ccw.Format.{Format}
 use Rattle.format.specs.declared.refusal.Refusal.{Refusal}
@@ -13,10 +13,6 @@ use Rattle.rules.specs.declared.pieces.Piece.{Piece}
 use Rattle.rules.specs.declared.place.Broken.{Broken}
 use Rattle.rules.specs.Rules.{bind, unless}
 use Rattle.rules.specs.TakingUp.{Cell, backward, in_force, none_in_force, is_invalid, refused_flag, pieces_of, cell_at, read_up}
-
-pub in_force_is : (command : Option ℕ) (code : ℕ) → unwrap_or command code ≡ in_force command code
-in_force_is None code = refl
-in_force_is (Some before) code = refl
 
 -- rule 4, as the code tests it
 pub valid_first : (command : Option ℕ) (none valid : Bool) (invalid : Bool) → is_some command ≡ not none → none ≡ true → valid ≡ not invalid → valid ≡ true
@@ -45,7 +41,7 @@ module _ (F : Format) (L : ℕ) (b : Reader) (a : ℕ) (command : Option ℕ) wh
   -- the answer once rules 4 to 6 are kept
   pub from_area : (w : Ccw) (at code : ℕ) (back : Bool) (area : Result (List Piece) Broken) → w ≡ ccw_at F b a → at ≡ a
       → (none_in_force command && is_invalid (class_in F w.code)) ≡ false → refused_flag w.flags ≡ false → w.count ≢ 0
-      → code ≡ in_force command w.code → back ≡ backward code → area ≡ pieces_of L b at w back w.flags.ida
+      → code ≡ in_force command w.code → back ≡ backward (in_force command w.code) → area ≡ pieces_of L b at w back w.flags.ida
       → read_up F L b a command ≡ bind area (λ ps. Ok (record { ccw = record { value = w; address = at }; before = command; code = code; pieces = ps }))
   unfolding body
   from_area w at code back area here there valid unflagged counted coded turned e =

@@ -1,10 +1,10 @@
-use Rattle.std.proofs.Common.{◌≡◌, ◌&&◌, false, Ok, Err, ap, sym, ◌∙◌}
+use Rattle.std.proofs.Common.{◌≡◌, ◌&&◌, false, Ok, Err, refl, sym, ◌∙◌}
 use Rattle.std.proofs.lemmas.Result.{err_from_is_err_and}
 use Rattle.format.specs.Bytes.{reader}
-use Rattle.format.specs.Classes.{class_in, backwards}
+use Rattle.format.specs.Classes.{class_in}
 use Rattle.rules.specs.Areas.{listed}
-use Rattle.rules.specs.TakingUp.{reach, none_in_force, is_invalid}
-use Rattle.rules.proofs.ReadingUp.{in_force_is, valid_first, valid_later, from_area}
+use Rattle.rules.specs.TakingUp.{reach, in_force, none_in_force, is_invalid}
+use Rattle.rules.proofs.ReadingUp.{valid_first, valid_later, from_area}
 use Rattle.rules.proofs.taking_up.read_up.Goals as goal
 use Rattle.rules.proofs.taking_up.read_up.Goals.{else-is_none-via-then-is_none+else-not-is_valid, else-is_none-via-else-is_none}
 
@@ -20,11 +20,10 @@ returns-in_err-pieces g c =
       | else-is_none-via-else-is_none v ↦ valid_later c.args.command c.is_none.result invalid c.is_none.ensures v.if-is_none.false
     ] in
     let unflagged = sym c.has_refused_flag.ensures ∙ c.if-has_refused_flag.false in
-    let coded = c.unwrap_or-code.ensures ∙ in_force_is c.args.command w.code in
-    let turned = c.backward.ensures ∙ ap backwards c.of.ensures in
-    let whole = from_area c.args.format (reach st) (reader st) c.args.address c.args.command w c.read_ccw-ccw.result.address c.unwrap_or-code.result c.backward.result in
     let p = err_from_is_err_and c.from_residual.result c.from_residual.ensures.1 in
-    rw (p.1, p.2) (sym (whole (Err c.in_err-pieces.field-0.0) c.read_ccw-ccw.ensures.value c.read_ccw-ccw.ensures.place valid unflagged c.if-ccw-eq0.false coded turned c.in_err-pieces.ensures))
+    rw (p.1, p.2)
+    (sym (from_area c.args.format (reach st) (reader st) c.args.address c.args.command w _ (in_force c.args.command w.code) _ (Err c.in_err-pieces.field-0.0)
+    c.read_ccw-ccw.ensures.value c.read_ccw-ccw.ensures.place valid unflagged c.if-ccw-eq0.false refl (cc) c.in_err-pieces.ensures))
 
 pub returns : goal.returns
 returns g c =
@@ -38,7 +37,5 @@ returns g c =
       | else-is_none-via-else-is_none v ↦ valid_later c.args.command c.is_none.result invalid c.is_none.ensures v.if-is_none.false
     ] in
     let unflagged = sym c.has_refused_flag.ensures ∙ c.if-has_refused_flag.false in
-    let coded = c.unwrap_or-code.ensures ∙ in_force_is c.args.command w.code in
-    let turned = c.backward.ensures ∙ ap backwards c.of.ensures in
-    let whole = from_area c.args.format (reach st) (reader st) c.args.address c.args.command w c.read_ccw-ccw.result.address c.unwrap_or-code.result c.backward.result in
-    sym (whole (Ok (listed c.in_ok-pieces.pieces)) c.read_ccw-ccw.ensures.value c.read_ccw-ccw.ensures.place valid unflagged c.if-ccw-eq0.false coded turned c.in_ok-pieces.ensures)
+    sym (from_area c.args.format (reach st) (reader st) c.args.address c.args.command w _ _ _ (Ok (listed c.in_ok-pieces.pieces))
+    c.read_ccw-ccw.ensures.value c.read_ccw-ccw.ensures.place valid unflagged c.if-ccw-eq0.false (cc) (cc) c.in_ok-pieces.ensures)

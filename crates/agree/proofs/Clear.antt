@@ -1,8 +1,7 @@
 -- A program that is accepted reads over none of its own bytes.
-use Rattle.std.proofs.Common.{◌≡◌, ℕ, zero, suc, ◌+◌, ◌<◌, ◌≤◌, Bool, true, false, cond, not, ◌&&◌, ◌||◌, List, [], ◌∷◌, length, is_some, Some, None, Ok, Option, Result, sym, refl, ap, ◌∙◌, subst, inl, inr, arith}
+use Rattle.std.proofs.Common.{◌≡◌, ℕ, zero, suc, ◌+◌, ◌<◌, ◌≤◌, Bool, true, false, not, ◌&&◌, List, [], ◌∷◌, length, is_some, Some, None, Ok, Option, sym, refl, ap, ◌∙◌, subst, inl, inr, arith}
 use Rattle.std.proofs.lemmas.Bool.{cases_Bool, both_ways, or_parts, and_cases}
 use Rattle.rules.specs.declared.pieces.Piece.{Piece}
-use Rattle.rules.specs.declared.place.Broken.{Broken}
 use Rattle.rules.specs.Soundness.{Sound}
 use Rattle.rules.specs.TakingUp.{Cell, reading, backward}
 use Rattle.rules.proofs.AreaSteps.{bind_ok}

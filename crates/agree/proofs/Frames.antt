@@ -1,17 +1,17 @@
 -- Where cells, the closing TIC and the words of a program frame stand.
-use Rattle.std.proofs.Common.{◌≡◌, ℕ, zero, suc, ◌+◌, ◌-◌, ◌*◌, ◌<◌, ◌≤◌, List, [], ◌∷◌, ◌++◌, map, length, get_or, take, replicate, Some, None, Option, sym, refl, ap, ◌∙◌, subst, append_assoc, arith, length-append}
+use Rattle.std.proofs.Common.{◌≡◌, ℕ, zero, suc, ◌+◌, ◌-◌, ◌*◌, ◌<◌, ◌≤◌, List, [], ◌∷◌, ◌++◌, map, length, get_or, replicate, Some, None, Option, sym, refl, ap, ◌∙◌, append_assoc, arith, length-append}
 use lib.ListN.{length-map, length-replicate}
-use Rattle.std.proofs.lemmas.List.{get_or_append_left, get_or-append-add, get_or-append_right, get_or_at, get_or-map, map-append}
+use Rattle.std.proofs.lemmas.List.{get_or_append_left, get_or-append-add, get_or-append_right, get_or_at, get_or-map}
 use Rattle.format.specs.declared.ccw.Ccw.{Ccw}
 use Rattle.format.specs.declared.ccw.Format.TheVariants.{One}
 use Rattle.format.specs.Bytes.{Reader, word_at, word_bytes}
 use Rattle.format.specs.Layouts.{ccw_at, ccw_bytes}
 use Rattle.rules.specs.declared.pieces.Piece.{Piece}
 use Rattle.rules.specs.TakingUp.{Cell}
-use Rattle.walk.specs.SoundTrails.{no_cell, cell, pieces_in}
+use Rattle.walk.specs.SoundTrails.{cell, pieces_in}
 use Rattle.walk.specs.Walks.{Trail}
 use Rattle.translate.specs.Frames.{cell_ccw, behind_list, cells_bytes, transfer_to, closing_bytes, first_of, words_of, words_bytes, filled, cells_part, frame_of}
-use Rattle.agree.proofs.Parts.{joined, length-joined, part_at, Stands, ccw_stands, word_stands}
+use Rattle.agree.proofs.Parts.{joined, length-joined, part_at, ccw_stands, word_stands}
 
 abbrev pub no_piece : Piece
 no_piece = record { first = 0; size = 0 }

@@ -1,10 +1,10 @@
 -- What a CCW does to a device has no address in it, and how it may go on.
-use Rattle.std.proofs.Common.{◌≡◌, ℕ, ◌-◌, min, Bool, true, false, cond, not, ◌&&◌, ◌||◌, eqb, List, [], ◌∷◌, length, take, Some, None, Option, sym, refl, ap, ◌∙◌, subst, arith}
+use Rattle.std.proofs.Common.{◌≡◌, ℕ, ◌-◌, Bool, true, false, cond, not, ◌&&◌, ◌||◌, eqb, List, [], Some, None, Option, refl, ◌∙◌, arith}
 use Rattle.std.proofs.lemmas.Bool.{both_ways}
 use Rattle.format.specs.declared.ccw.Ccw.{Ccw}
 use Rattle.device.specs.declared.interface.Begun.{Begun}
 use Rattle.device.specs.declared.interface.Begun.TheVariants.{Immediate, Open}
-use Rattle.device.specs.Machine.{Machine, due, room}
+use Rattle.device.specs.Machine.{Machine}
 use Rattle.rules.specs.TakingUp.{Cell, reading}
 use Rattle.channel.specs.declared.run.Next.{Next}
 use Rattle.channel.specs.declared.run.Next.TheVariants.{Data, Command, End}

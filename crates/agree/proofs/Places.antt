@@ -1,13 +1,12 @@
 -- Areas through place.
-use Rattle.std.proofs.Common.{◌≡◌, ℕ, zero, suc, ◌+◌, ◌-◌, ◌*◌, ◌/◌, ◌%◌, ◌<◌, ◌≤◌, min, Bool, true, false, cond, not, ◌&&◌, ◌||◌, eqb, ltb, List, [], ◌∷◌, ◌++◌, map, length, get_or, Ok, Result, sym, refl, ap, ◌∙◌, subst, inl, inr, arith}
+use Rattle.std.proofs.Common.{◌≡◌, ℕ, zero, suc, ◌+◌, ◌-◌, ◌*◌, ◌/◌, ◌%◌, ◌<◌, ◌≤◌, min, Bool, true, false, not, ◌&&◌, eqb, ltb, List, [], ◌∷◌, ◌++◌, map, length, get_or, Ok, Result, sym, refl, ap, ◌∙◌, inl, inr, arith}
 use Rattle.std.proofs.lemmas.List.{map-append}
 use Rattle.std.proofs.lemmas.Bool.{cases_lt, lt-ltb, le-ltb, ltb-false, ltb-true, not-false, or_parts, or_from}
-use Rattle.format.specs.declared.refusal.Refusal.TheVariants.{WordOutside, WordOffBoundary, AreaOutside}
 use Rattle.format.specs.Bytes.{Reader, word_at}
 use Rattle.rules.specs.declared.pieces.Piece.{Piece}
 use Rattle.rules.specs.declared.place.Broken.{Broken}
-use Rattle.rules.specs.Rules.{unless, bind}
-use Rattle.rules.specs.Areas.{serves, enters, onward, outside, first_outside, word_serves, one_word, by_words, run, area, Shaped}
+use Rattle.rules.specs.Rules.{bind}
+use Rattle.rules.specs.Areas.{serves, enters, onward, outside, one_word, by_words, run, area, Shaped}
 use Rattle.rules.proofs.AreaSteps.{serves_some}
 use Rattle.map.specs.Law.{Lawful}
 use Rattle.map.specs.Places.{place_of, end_of}

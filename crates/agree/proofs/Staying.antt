@@ -1,7 +1,7 @@
 -- Stores outside the program's own bytes, and pages without its data moved.
-use Rattle.std.proofs.Common.{◌≡◌, ℕ, zero, suc, ◌+◌, ◌-◌, ◌*◌, ◌/◌, ◌%◌, ◌<◌, ◌≤◌, min, Bool, true, false, cond, ◌||◌, eqb, List, [], ◌∷◌, ◌++◌, map, length, get_or, take, set, Ok, sym, refl, ap, ◌∙◌, subst, inl, inr, arith, length-set, length-take}
+use Rattle.std.proofs.Common.{◌≡◌, ℕ, ◌+◌, ◌*◌, ◌/◌, ◌%◌, ◌<◌, ◌≤◌, min, Bool, true, false, cond, eqb, List, [], ◌∷◌, ◌++◌, map, length, get_or, take, set, sym, refl, ap, ◌∙◌, subst, inl, inr, arith, length-set, length-take}
 use Rattle.std.proofs.lemmas.List.{get_or-take, ext_get_or, get_or-set_same, get_or-set_other}
-use Rattle.std.proofs.lemmas.Bool.{cases_eq, both_ways, or_parts, eqb-false, eq-eqb, ne_eqb, cond-true, cond-false, cases_Bool}
+use Rattle.std.proofs.lemmas.Bool.{cases_eq, both_ways, or_parts, eqb-false, eq-eqb, ne_eqb, cond-true, cond-false}
 use Rattle.device.specs.Machine.{Machine}
 use Rattle.rules.specs.declared.pieces.Piece.{Piece}
 use Rattle.rules.specs.Areas.{run}
@@ -9,16 +9,15 @@ use Rattle.rules.specs.TakingUp.{Cell}
 use Rattle.walk.specs.OwnBytes.{extents_of, Own}
 use Rattle.walk.specs.Walks.{Trail}
 use Rattle.channel.specs.Moves.{lay}
-use Rattle.channel.specs.Steps.{World}
 use Rattle.program.proofs.Changing.{lay_apart}
-use Rattle.map.specs.Law.{Lawful, exchanged, PutDone}
+use Rattle.map.specs.Law.{Lawful, exchanged}
 use Rattle.map.specs.Places.{place_of, end_of}
 use Rattle.map.specs.Views.{guest_bytes, ByPlace}
 use Rattle.map.proofs.Seen.{length-guest_bytes, get_or-guest_bytes, copy_is}
-use Rattle.translate.specs.Frames.{first_of, words_of, words_bytes, filled, cells_part, frame_of}
+use Rattle.translate.specs.Frames.{first_of, words_of, words_bytes, filled, cells_part}
 use Rattle.translate.specs.Translations.{accepted, piece_in, data_in}
-use Rattle.agree.specs.Correspondence.{Holds, Loaded, Corresponding}
-use Rattle.agree.specs.Agreement.{stored_through, stored_at, with_storage, StoresAgree, PageMoved, MovesAgree}
+use Rattle.agree.specs.Correspondence.{Loaded, Corresponding}
+use Rattle.agree.specs.Agreement.{with_storage, StoresAgree, PageMoved, MovesAgree}
 use Rattle.agree.proofs.Places.{Framed, framed}
 use Rattle.agree.proofs.Laying.{Every, every_append, apart_from, run_inside, run_up}
 use Rattle.agree.proofs.Steps.{laid_stays}

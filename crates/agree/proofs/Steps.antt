@@ -1,5 +1,5 @@
 -- The host's channel and the guest's, step by step.
-use Rattle.std.proofs.Common.{◌≡◌, ℕ, zero, suc, ◌+◌, ◌-◌, ◌*◌, ◌/◌, ◌%◌, ◌^◌, ◌<◌, ◌≤◌, min, Bool, true, false, cond, not, ◌&&◌, ◌||◌, eqb, ltb, ◌⊎◌, List, [], ◌∷◌, ◌++◌, map, length, get_or, take, Some, None, Ok, Err, Option, Result, sym, refl, ap, ◌∙◌, subst, inl, inr, arith, length-take}
+use Rattle.std.proofs.Common.{◌≡◌, ℕ, zero, suc, ◌+◌, ◌-◌, ◌*◌, ◌/◌, ◌%◌, ◌<◌, ◌≤◌, min, Bool, true, false, cond, ◌||◌, eqb, ltb, ◌⊎◌, List, [], ◌∷◌, map, length, get_or, take, Some, None, Ok, Result, sym, refl, ap, ◌∙◌, subst, inl, inr, arith, length-take}
 use Rattle.std.proofs.lemmas.List.{get_or-take, ext_get_or}
 use Rattle.std.proofs.lemmas.Bool.{cases_Bool, lt-ltb, eq-eqb, and_from, cond-true, cond-false}
 use Rattle.format.specs.declared.ccw.Format.TheVariants.{Zero, One}
@@ -12,8 +12,8 @@ use Rattle.rules.specs.Rules.{bind}
 use Rattle.rules.specs.Soundness.{Sound}
 use Rattle.rules.specs.TakingUp.{Cell, reach, backward, found, read_up, taken_up}
 use Rattle.walk.specs.OwnBytes.{extents_of, Own}
-use Rattle.walk.specs.SoundTrails.{cell, Following, SoundTrail, OwnBytesAlone}
-use Rattle.walk.specs.Walks.{Trail, goes_on, carried}
+use Rattle.walk.specs.SoundTrails.{cell, SoundTrail}
+use Rattle.walk.specs.Walks.{Trail, carried}
 use Rattle.walk.proofs.OwnAlone.{own_bytes_alone}
 use Rattle.walk.proofs.SoundTrails.{sound_trail}
 use Rattle.channel.specs.declared.run.Next.{Next}
@@ -27,15 +27,14 @@ use Rattle.map.specs.Law.{Lawful}
 use Rattle.map.specs.Places.{place_of, end_of}
 use Rattle.map.specs.Views.{guest_bytes, ByPlace}
 use Rattle.map.proofs.Seen.{length-guest_bytes, by_place, copy_is}
-use Rattle.translate.specs.Frames.{frame_of}
 use Rattle.translate.specs.Translations.{accepted, ccw_addresses, follows_cell, guest_ccw}
-use Rattle.agree.specs.Correspondence.{Holds, Loaded, AtStart, Behind, guest_status, Unchecked, Meeting, Corresponding}
-use Rattle.agree.specs.Agreement.{Elsewhere, Kept, AdvancedAlike}
+use Rattle.agree.specs.Correspondence.{Loaded, AtStart, Behind, Unchecked, Meeting, Corresponding}
+use Rattle.agree.specs.Agreement.{Kept, AdvancedAlike}
 use Rattle.agree.proofs.Places.{Framed, framed, place_inside, area_placed}
 use Rattle.agree.proofs.Taking.{Ready, list_of, hosted, host_found, host_next, host_read}
 use Rattle.agree.proofs.Laying.{Every, apart_from, area_inside, lay_length, lay_seen, lay_elsewhere, gathered_same, other_frame}
 use Rattle.agree.proofs.Clear.{stores, accepted_parts, accepted_from, area_clear}
-use Rattle.agree.proofs.Outcomes.{done_hosted, Goes, Follows, done_goes}
+use Rattle.agree.proofs.Outcomes.{done_hosted, Goes, done_goes}
 
 -- the back table
 length-addresses : (ts : List Cell) → length (ccw_addresses ts) ≡ length ts

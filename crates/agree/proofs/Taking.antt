@@ -1,5 +1,5 @@
 -- The host's channel takes up the cells of a program frame.
-use Rattle.std.proofs.Common.{◌≡◌, ℕ, ◌+◌, ◌*◌, ◌%◌, ◌<◌, ◌≤◌, Bool, true, false, not, ◌&&◌, ◌||◌, eqb, ltb, List, map, length, get_or, Ok, Option, Result, sym, refl, ap, ◌∙◌, subst, inl, inr, arith}
+use Rattle.std.proofs.Common.{◌≡◌, ℕ, ◌+◌, ◌*◌, ◌%◌, ◌<◌, ◌≤◌, Bool, true, false, not, ◌&&◌, ◌||◌, eqb, List, map, length, get_or, Ok, Result, refl, ap, ◌∙◌, inl, inr, arith}
 use Rattle.std.proofs.lemmas.Bool.{le-ltb, eq-eqb, ne_eqb}
 use Rattle.format.specs.declared.ccw.Ccw.{Ccw}
 use Rattle.format.specs.declared.ccw.Format.TheVariants.{One}
@@ -15,12 +15,12 @@ use Rattle.rules.specs.declared.place.Broken.{Broken}
 use Rattle.rules.specs.Rules.{unless}
 use Rattle.rules.specs.Areas.{by_words}
 use Rattle.rules.specs.Soundness.{Sound}
-use Rattle.rules.specs.TakingUp.{Cell, is_transfer, is_invalid, backward, transfer_at, transfer_rules, found, in_force, none_in_force, pieces_of, cell_at, read_up}
+use Rattle.rules.specs.TakingUp.{Cell, is_transfer, is_invalid, backward, transfer_at, found, in_force, none_in_force, pieces_of, cell_at, read_up}
 use Rattle.rules.proofs.Passing.{Aligned, found_here, found_through, read_up_from}
 use Rattle.walk.specs.SoundTrails.{cell, pieces_in, Proper, Leads}
 use Rattle.walk.specs.Walks.{Trail}
 use Rattle.map.specs.Places.{place_of, end_of}
-use Rattle.translate.specs.Frames.{cell_ccw, transfer_to, frame_of}
+use Rattle.translate.specs.Frames.{cell_ccw, frame_of}
 use Rattle.agree.proofs.Frames.{words_before, list_end, cell_read, transfer_read, word_read}
 use Rattle.agree.proofs.Places.{placed, Framed, words_placed}
 

@@ -1,5 +1,5 @@
 -- The statements of the agreement, put together.
-use Rattle.std.proofs.Common.{◌≡◌, ℕ, ◌+◌, ◌-◌, ◌*◌, ◌<◌, ◌≤◌, Bool, List, ◌++◌, map, length, get_or, take, drop, Ok, Result, sym, refl, ap, ◌∙◌, subst, inl, arith, length-append, length-drop}
+use Rattle.std.proofs.Common.{◌≡◌, ℕ, ◌+◌, ◌-◌, Bool, List, ◌++◌, length, get_or, drop, Ok, Result, sym, refl, ap, ◌∙◌, subst, inl, arith, length-append, length-drop}
 use Rattle.std.proofs.lemmas.List.{get_or-append_right, get_or-drop, take_at}
 use Rattle.format.specs.declared.ccw.Format.TheVariants.{One}
 use Rattle.format.specs.Bytes.{reader}
@@ -10,7 +10,7 @@ use Rattle.rules.specs.TakingUp.{reach, read_up}
 use Rattle.walk.specs.SoundTrails.{cell}
 use Rattle.walk.specs.Walks.{Trail}
 use Rattle.walk.proofs.SoundTrails.{sound_trail}
-use Rattle.channel.specs.Steps.{World, steps}
+use Rattle.channel.specs.Steps.{World}
 use Rattle.map.specs.Law.{Lawful}
 use Rattle.map.specs.Places.{place_of}
 use Rattle.map.specs.Views.{guest_bytes, ByPlace}
@@ -18,7 +18,7 @@ use Rattle.map.proofs.Seen.{length-guest_bytes, get_or-guest_bytes, copy_is}
 use Rattle.translate.specs.Frames.{frame_of}
 use Rattle.translate.specs.Translations.{accepted}
 use Rattle.agree.specs.Correspondence.{Holds, Loaded, Corresponding}
-use Rattle.agree.specs.Agreement.{TakesCell, CellsAgree, host_start, direct_start, StartsAgree, StepsAgree, AdvancesAgree, HaltsAgree, NeverChecked, StepsKeep, Together}
+use Rattle.agree.specs.Agreement.{CellsAgree, StartsAgree, StepsAgree, AdvancesAgree, HaltsAgree, NeverChecked, StepsKeep, Together}
 use Rattle.agree.proofs.Frames.{frame_length}
 use Rattle.agree.proofs.Places.{framed, place_inside}
 use Rattle.agree.proofs.Taking.{list_of, hosted, host_found, host_read}

@@ -1,6 +1,6 @@
 -- The host's channel and the guest's agree. A reader must believe: these statements, each for every map and device that
 -- the function they stand on may be called with, say that a translated program does what the guest wrote.
-use Rattle.std.specs.Prelude.{◌≡◌, ℕ, ◌+◌, ◌*◌, ◌/◌, ◌%◌, ◌<◌, ◌≤◌, Bool, true, false, List, ◌++◌, map, length, drop, None, Ok, ◌≢◌, slice_index}
+use Rattle.std.specs.Prelude.{◌≡◌, ℕ, ◌+◌, ◌*◌, ◌/◌, ◌%◌, ◌<◌, ◌≤◌, Bool, false, List, ◌++◌, map, length, drop, Ok, ◌≢◌, slice_index}
 use Rattle.format.specs.declared.ccw.Format.TheVariants.{Zero, One}
 use Rattle.device.specs.Machine.{Machine}
 use Rattle.rules.specs.Areas.{run}

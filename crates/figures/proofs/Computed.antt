@@ -1,5 +1,5 @@
 -- The worked cases, by computing.
-use Rattle.std.proofs.Common.{◌≡◌, ℕ, List, [], ◌∷◌, refl}
+use Rattle.std.proofs.Common.{refl}
 use Rattle.rules.specs.Areas.{cut, by_words, run, area}
 use Rattle.channel.specs.Steps.{advanced}
 use Rattle.figures.specs.Cases.{WorkedCases}

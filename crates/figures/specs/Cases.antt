@@ -1,6 +1,6 @@
 -- Worked cases. A reader must believe: these are the answers that the rules give.
-use Rattle.std.specs.Prelude.{◌≡◌, ℕ, ◌/◌, ◌%◌, true, false, List, [], ◌∷◌, ◌++◌, replicate, Some, None, Ok, Err, Option, slice_set}
-use Rattle.format.specs.declared.ccw.Format.TheVariants.{Zero, One}
+use Rattle.std.specs.Prelude.{◌≡◌, ℕ, ◌/◌, ◌%◌, true, List, [], ◌∷◌, ◌++◌, replicate, Some, None, Err, Option, slice_set}
+use Rattle.format.specs.declared.ccw.Format.TheVariants.{Zero}
 use Rattle.format.specs.declared.refusal.Refusal.TheVariants.{TransferMisplaced, CodeInvalid}
 use Rattle.format.specs.declared.status.StatusWord.{StatusWord}
 use Rattle.format.specs.StatusWords.{status_bytes}

@@ -1,6 +1,6 @@
-use Rattle.std.proofs.Common.{◌≡◌, ℕ, sym, refl, ap, ◌∙◌}
+use Rattle.std.proofs.Common.{ℕ, ap, ◌∙◌}
 use Rattle.format.specs.declared.ccw.Format.TheVariants.{Zero}
-use Rattle.channel.specs.Steps.{World, advanced, started, word_of}
+use Rattle.channel.specs.Steps.{World, advanced, word_of}
 use Rattle.console.specs.ConsoleMachine.{console_machine}
 use Rattle.console.specs.Meaning.{meaning}
 use Rattle.figures.specs.Cases.{read_program}

@@ -1,4 +1,4 @@
-use Rattle.std.proofs.Common.{◌≡◌, ℕ, ap}
+use Rattle.std.proofs.Common.{ℕ, ap}
 use Rattle.channel.specs.Steps.{World}
 use Rattle.agree.proofs.Steps.{advance_agrees}
 use Rattle.agree.proofs.Whole.{advances_agree, never_checked, all_steps_keep, together_by}

@@ -1,4 +1,3 @@
-use Rattle.std.proofs.Common.{◌≡◌}
 use Rattle.agree.proofs.Steps.{halt_agrees}
 use Rattle.agree.proofs.Whole.{halts_agree, together_by}
 use Rattle.agree.proofs.twin.Twin.halt.Goals as goal

@@ -1,4 +1,3 @@
-use Rattle.std.proofs.Common.{◌≡◌}
 use Rattle.agree.proofs.Steps.{step_agrees}
 use Rattle.agree.proofs.Whole.{one_step_agrees, together_by}
 use Rattle.agree.proofs.twin.Twin.step.Goals as goal

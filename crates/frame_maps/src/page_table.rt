@@ -1,7 +1,7 @@
 ghost use Rattle.std.specs.Prelude.{◌≡◌, ℕ, ◌<◌, ◌≤◌, true, false, length, take, Decides, MatchResult, slice_index, slice_set};
 ghost use Rattle.map.specs.Law.{Lawful, Ranged, Distinct, Kept, Spare};
 ghost use Rattle.frame_maps.specs.FrameSets.{among, flagged};
-ghost use Rattle.std.proofs.Common.{rules, arith};
+ghost use Rattle.std.proofs.Common.{rules};
 
 use format::refusal::Refusal;
 use map::interface::{MOST_FRAMES, MOST_PAGES, Map};
@@ -124,7 +124,7 @@ impl Map for PageTable {
 
     ghost free = { λ t. flagged t.flags };
 
-    ghost lawful = { first_of (Prim.search rules, Prim.grind (arith, Self.row.coded.inj)) };
+    ghost lawful = { Prim.search rules };
 
     fn page_count(&self) -> usize {
         self.count

@@ -2,7 +2,7 @@ ghost use Rattle.std.specs.Prelude.{◌≡◌, ℕ, ◌+◌, ◌≤◌, length, 
 ghost use Rattle.std.specs.List.{range_with_len};
 ghost use Rattle.map.specs.Law.{Lawful, Ranged, Distinct};
 ghost use Rattle.frame_maps.specs.FrameSets.{none};
-ghost use Rattle.std.proofs.Common.{rules, arith};
+ghost use Rattle.std.proofs.Common.{rules};
 
 use format::refusal::Refusal;
 use map::interface::{MOST_FRAMES, MOST_PAGES, Map};
@@ -38,7 +38,7 @@ impl Map for Run {
 
     ghost free = { λ _. none };
 
-    ghost lawful = { first_of (Prim.search rules, Prim.grind (arith, Self.row.coded.inj)) };
+    ghost lawful = { Prim.search rules };
 
     fn page_count(&self) -> usize {
         self.count

@@ -1,4 +1,5 @@
--- What a window shows of a lawful map, before and after a put.
+-- What a window shows of a lawful map, before and after a put. Nothing here has to be believed: these are lemmas with their
+-- proofs, which stand here since the law of a window cites them.
 use Rattle.std.specs.Prelude.{◌≡◌, ℕ, ◌+◌, ◌-◌, ◌<◌, ◌≤◌, min, Bool, cond, List, length, take, drop, IfOk, Ok, Err, Result, MatchResult, nat_lt, slice_index, slice_set, refl}
 use Rattle.std.proofs.Common.{sym, ap, subst, ◌∙◌, inl, inr, arith}
 use Rattle.std.proofs.Math.Seq.{take-set-lt}

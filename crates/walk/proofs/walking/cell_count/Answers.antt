@@ -1,5 +1,5 @@
 use Rattle.std.proofs.Common.{take, sym, rules}
-use lib.ListN.{length-map}
+use Rattle.std.proofs.Math.ListN.{length-map}
 use Rattle.rules.specs.TakingUp.{cell_of}
 use Rattle.walk.proofs.walking.cell_count.Goals as goal
 

@@ -14,9 +14,9 @@ mod units;
 mod watched;
 
 use disk::state::access::zero_disk;
-use programs::console::{CONSOLE_JOBS, DAMAGED, HALTS};
-use programs::disk::DISK_JOBS;
-use programs::tape::TAPE_JOBS;
+use programs::console_jobs::{CONSOLE_JOBS, DAMAGED, HALTS};
+use programs::disk_jobs::DISK_JOBS;
+use programs::tape_jobs::TAPE_JOBS;
 use running::{halt_job, run_console_job, run_damaged, run_jobs};
 use units::empty_tape;
 use watched::Watched;

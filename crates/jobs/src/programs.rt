@@ -1,6 +1,6 @@
-pub mod console;
-pub mod disk;
-pub mod tape;
+pub mod console_jobs;
+pub mod disk_jobs;
+pub mod tape_jobs;
 
 // Command codes that every device knows, and the TIC.
 const NO_OPERATION: u8 = 0x03;

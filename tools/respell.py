@@ -4,7 +4,8 @@
 usage: python3 tools/respell.py      at the top of the repository, once, after the kit's script
 
 The table in tools/respell.txt has a line for each name, the old and the new spelling. A dash stays where it joins a
-word of the library to one of ours, as in length-shown. Rust names, strings and comments' prose are left alone.
+word of the library to one of ours, as in length-shown. Rust names have no dash, so they keep theirs; a comment that
+names a definition follows it.
 """
 
 import os

@@ -8,9 +8,10 @@ run maps:
 	@mkdir -p target
 	@cd crates/$(PROGRAM) && rt run 2> ../../target/$@.log || { cat ../../target/$@.log; exit 1; }
 
-# Proves what changed, lowest crates first; takes over what stayed.
+# Proves what changed, lowest crates first, and takes over what stayed; runs the programs.
 check:
 	@rt all check
+	@for program in jobs rule_table map_tour; do (cd crates/$$program && rt run 2> /dev/null | diff stdout -) || exit 1; done
 
 # Proves every crate from nothing, tries every must-fail edit, runs the programs. Its last line is
 # 'N passed, 0 failed'; anything else makes it fail.

@@ -1,7 +1,7 @@
 //! The rules of docs/RULES.md once more, in plain Rust.
 //!
 //! This is a second implementation, written from that page alone and sharing no code with the
-//! proved crates. The comparison feeds both the same inputs and wants the same bits from both.
+//! proved crates. It is meant to be compared with them on the same inputs; nothing does so yet.
 
 pub mod area;
 pub mod ccw;

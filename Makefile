@@ -13,8 +13,8 @@ check:
 	@rt all check
 	@for program in jobs rule_table map_tour; do (cd crates/$$program && rt run 2> /dev/null | diff stdout -) || exit 1; done
 
-# Proves every crate from nothing, tries every must-fail edit, runs the programs. Its last line is
-# 'N passed, 0 failed'; anything else makes it fail.
+# Proves every crate from nothing, tries every must-fail edit, runs the programs and the tests of `second`. Its last line
+# is 'N passed, 0 failed'; anything else makes it fail.
 test:
 	@tools/gate.sh
 

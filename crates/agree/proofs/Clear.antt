@@ -14,7 +14,7 @@ use Rattle.channel.specs.Moves.{addresses_of}
 use Rattle.translate.specs.Translations.{walked, unless_overwriting, accepted}
 use Rattle.agree.proofs.Laying.{Every, PiecesAll, area_bytes}
 
-none_told : (es : List Extent) (low n : ℕ) (o : Option ℕ) → is_some o ≡ false → Tells es low n o → (a : ℕ) → low ≤ a → a < low + n → Own a es → ⊥
+pub none_told : (es : List Extent) (low n : ℕ) (o : Option ℕ) → is_some o ≡ false → Tells es low n o → (a : ℕ) → low ≤ a → a < low + n → Own a es → ⊥
 none_told es low n None e t = t
 none_told es low n (Some x) e t = absurd (both_ways true e refl)
 

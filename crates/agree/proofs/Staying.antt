@@ -1,13 +1,15 @@
 -- Stores outside the program's own bytes, and pages without its data moved.
-use Rattle.std.proofs.Common.{◌≡◌, ℕ, ◌+◌, ◌*◌, ◌/◌, ◌%◌, ◌<◌, ◌≤◌, min, Bool, true, false, cond, eqb, List, [], ◌∷◌, ◌++◌, map, length, get_or, take, set, sym, refl, ap, ◌∙◌, subst, inl, inr, arith, length-set, length-take}
+use Rattle.std.proofs.Common.{◌≡◌, ℕ, ◌+◌, ◌*◌, ◌/◌, ◌%◌, ◌<◌, ◌≤◌, min, Bool, true, false, not, ◌&&◌, is_some, cond, eqb, List, [], ◌∷◌, ◌++◌, map, length, get_or, take, set, sym, refl, ap, ◌∙◌, subst, inl, inr, arith, length-set, length-take}
 use Rattle.std.proofs.lemmas.List.{get_or-take, ext_get_or, get_or-set_same, get_or-set_other}
 use Rattle.std.proofs.lemmas.Bool.{cases_eq, both_ways, or_parts, eqb-false, eq-eqb, ne_eqb, cond-true, cond-false}
 use Rattle.device.specs.Machine.{Machine}
 use Rattle.rules.specs.declared.pieces.Piece.{Piece}
 use Rattle.rules.specs.Areas.{run}
 use Rattle.rules.specs.TakingUp.{Cell}
-use Rattle.walk.specs.OwnBytes.{extents_of, Own}
+use Rattle.walk.specs.declared.own_bytes.Extent.{Extent}
+use Rattle.walk.specs.OwnBytes.{extents_of, touched, Own}
 use Rattle.walk.specs.Walks.{Trail}
+use Rattle.walk.proofs.Touching.{tells}
 use Rattle.channel.specs.Moves.{lay}
 use Rattle.program.proofs.Changing.{lay_apart}
 use Rattle.map.specs.Law.{Lawful, exchanged}
@@ -17,10 +19,15 @@ use Rattle.map.proofs.Seen.{length-guest_bytes, get_or-guest_bytes, copy_is}
 use Rattle.translate.specs.Frames.{first_of, words_of, words_bytes, filled, cells_part}
 use Rattle.translate.specs.Translations.{accepted, piece_in, data_in}
 use Rattle.agree.specs.Correspondence.{Loaded, Corresponding}
-use Rattle.agree.specs.Agreement.{with_storage, StoresAgree, PageMoved, MovesAgree}
+use Rattle.agree.specs.Agreement.{with_storage, StoresAgree, StoreKeeps, PageMoved, MovesAgree, MoveKeeps}
+use Rattle.agree.proofs.Clear.{none_told}
 use Rattle.agree.proofs.Places.{Framed, framed}
 use Rattle.agree.proofs.Laying.{Every, every_append, apart_from, run_inside, run_up}
 use Rattle.agree.proofs.Steps.{laid_stays}
+
+denied : (b : Bool) → not b ≡ true → b ≡ false
+denied true e = sym e
+denied false e = refl
 
 module _ (fs : List ℕ) (free : ℕ → Bool) (law : Lawful fs free) (m : Machine) where
   pub stores_agree : StoresAgree m fs free
@@ -34,6 +41,13 @@ module _ (fs : List ℕ) (free : ℕ → Bool) (law : Lawful fs free) (m : Machi
       λ a o. lay_apart xs bytes G a (apart_from (λ x. Own x (extents_of w.cells) → ⊥) xs a off (λ x n q. n (subst (λ y. Own y (extents_of w.cells)) (sym q) o))) in
       let after = laid_stays fs free law start w H c.loaded xs bytes (run_inside (end_of fs) address (length bytes) inside) own in
       record { loaded = after.0; bytes = after.1 ∙ ap (lay xs bytes) c.bytes; device = c.device; runs = c.runs }
+
+  pub store_keeps : (es : List Extent) (low n : ℕ) → not (is_some (touched es low n)) ≡ true → StoreKeeps m fs free es low n
+  unfolding StoreKeeps StoresAgree
+  store_keeps es low n allowed start w host direct bytes c own size inside =
+      let fits : low + length bytes ≤ end_of fs = omega (arith, size, inside) in
+      stores_agree start w host direct low bytes c fits
+      (λ a from to o. none_told es low n (touched es low n) (denied (is_some (touched es low n)) allowed) (tells es low n) a from (omega (arith, size, to)) (subst (Own a) (sym own) o))
 
 -- no word leads into the page
 pieces_off : (page : ℕ) (ps : List Piece) → piece_in page ps ≡ false → Every (λ a. a / 4096 ≡ page → ⊥) (map first_of ps)
@@ -146,3 +160,12 @@ moves_agree fs free law m start w host direct page frame fs' free' after c done 
     let l = loaded_moved fs free law page frame done.0 done.1 free' start w host.storage after c.loaded done.3 off p in
     let base : Corresponding m (set fs page frame) free' start w (with_storage host after) direct = record { loaded = l.0; bytes = l.1 ∙ c.bytes; device = c.device; runs = c.runs } in
     subst (λ z. Corresponding m z free' start w (with_storage host after) direct) (sym done.2) base
+
+no_data : (d p q : Bool) → ((not d && p) && q) ≡ true → d ≡ false
+no_data true p q e = sym e
+no_data false p q e = refl
+
+pub move_keeps : (fs : List ℕ) (free : ℕ → Bool) → Lawful fs free → (m : Machine) (page frame : ℕ) (d p q : Bool) → ((not d && p) && q) ≡ true → MoveKeeps m fs free page frame d
+unfolding MoveKeeps MovesAgree
+move_keeps fs free law m page frame d p q allowed start w host direct fs' free' after c said done copied =
+    moves_agree fs free law m start w host direct page frame fs' free' after c done (said ∙ no_data d p q allowed) copied

@@ -242,12 +242,12 @@ module _ (fs : List ℕ) (free : ℕ → Bool) (law : Lawful fs free) (start : �
         (subst (λ (p : Place). Agrees (halted_from m H s (Running p oh)) (halted_from m (guest_bytes fs H) s (Running (record { address = start; first = true; command = None }) od))) (sym q.host_is) base)
     halt_places H s ph pd oh od l (inr q) =
         let t : Cell = cell cells q.index in
-        let p1 : Place = record { address = 8 * q.index + 8; first = false; command = carried t } in
-        let p2 : Place = record { address = t.ccw.address + 8; first = false; command = carried t } in
-        let base : Agrees (halted_from m H s (Running p1 oh)) (halted_from m (guest_bytes fs H) s (Running p2 od)) =
+        let on_host : Place = record { address = 8 * q.index + 8; first = false; command = carried t } in
+        let on_guest : Place = record { address = t.ccw.address + 8; first = false; command = carried t } in
+        let base : Agrees (halted_from m H s (Running on_host oh)) (halted_from m (guest_bytes fs H) s (Running on_guest od)) =
         record { loaded = l; bytes = refl; device = refl; runs = (ap (λ x. status_of x (closed m (carried t) s).0 0 0) (back_at cells q.index q.within), λ u. omega arith) } in
         subst (λ (p : Place). Agrees (halted_from m H s (Running ph oh)) (halted_from m (guest_bytes fs H) s (Running p od))) (sym q.direct_is)
-        (subst (λ (p : Place). Agrees (halted_from m H s (Running p oh)) (halted_from m (guest_bytes fs H) s (Running p2 od))) (sym q.host_is) base)
+        (subst (λ (p : Place). Agrees (halted_from m H s (Running p oh)) (halted_from m (guest_bytes fs H) s (Running on_guest od))) (sym q.host_is) base)
 
     halt_from : (H : List ℕ) (s : m.State) (host direct : Run) → Loaded fs free start w H → Meeting start w host direct → Agrees (halted_from m H s host) (halted_from m (guest_bytes fs H) s direct)
     halt_from H s (Running ph oh) (Running pd od) l q = halt_places H s ph pd oh od l q.1

@@ -5,6 +5,7 @@ use Rattle.format.specs.declared.ccw.Format.TheVariants.{Zero, One}
 use Rattle.device.specs.Machine.{Machine}
 use Rattle.rules.specs.Areas.{run}
 use Rattle.rules.specs.TakingUp.{Cell, taken_up}
+use Rattle.walk.specs.declared.own_bytes.Extent.{Extent}
 use Rattle.walk.specs.OwnBytes.{extents_of, Own}
 use Rattle.walk.specs.SoundTrails.{cell}
 use Rattle.walk.specs.Walks.{Trail}
@@ -117,6 +118,14 @@ StoresAgree m fs free =
     → address + length bytes ≤ end_of fs → ((a : ℕ) → address ≤ a → a < address + length bytes → Own a (extents_of w.cells) → ⊥)
     → Corresponding m fs free start w (with_storage host (stored_through fs address bytes host.storage)) (with_storage direct (stored_at address bytes direct.storage))
 
+-- what a yes to a store of so many bytes at an address means, for a program with these own bytes: made on both sides inside
+-- the guest's storage, it leaves the two runs corresponding
+unfoldable pub StoreKeeps : Machine → List ℕ → (ℕ → Bool) → List Extent → ℕ → ℕ → Type 0
+StoreKeeps m fs free own address size =
+    (start : ℕ) (w : Trail) (host direct : World m) (bytes : List ℕ) → Corresponding m fs free start w host direct
+    → own ≡ extents_of w.cells → length bytes ≡ size → address + size ≤ end_of fs
+    → Corresponding m fs free start w (with_storage host (stored_through fs address bytes host.storage)) (with_storage direct (stored_at address bytes direct.storage))
+
 -- a page copied from its old frame to another, and the old frame filled with 0
 pub record PageMoved (old frame : ℕ) (before after : List ℕ) : Type 0 where
   pub long : length after ≡ length before
@@ -128,6 +137,14 @@ unfoldable pub MovesAgree : Machine → List ℕ → (ℕ → Bool) → Type 0
 MovesAgree m fs free =
     (start : ℕ) (w : Trail) (host direct : World m) (page frame : ℕ) (fs' : List ℕ) (free' : ℕ → Bool) (after : List ℕ) → Corresponding m fs free start w host direct
     → PutDone fs free page frame fs' free' → data_in w.cells page ≡ false → PageMoved (slice_index fs page) frame host.storage after
+    → Corresponding m fs' free' start w (with_storage host after) direct
+
+-- what a yes to the move of a page to a frame means, if it was truly said whether the program has data there: put by the map and
+-- copied, the page leaves the two runs corresponding
+unfoldable pub MoveKeeps : Machine → List ℕ → (ℕ → Bool) → ℕ → ℕ → Bool → Type 0
+MoveKeeps m fs free page frame has_data =
+    (start : ℕ) (w : Trail) (host direct : World m) (fs' : List ℕ) (free' : ℕ → Bool) (after : List ℕ) → Corresponding m fs free start w host direct
+    → data_in w.cells page ≡ has_data → PutDone fs free page frame fs' free' → PageMoved (slice_index fs page) frame host.storage after
     → Corresponding m fs' free' start w (with_storage host after) direct
 
 -- 6. Two runs that correspond before correspond after.

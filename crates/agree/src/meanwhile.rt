@@ -1,7 +1,7 @@
-ghost use Rattle.std.specs.Prelude.{◌≡◌, not, ◌&&◌, length, is_some, nat_lt};
+ghost use Rattle.std.specs.Prelude.{◌≡◌, true, not, ◌&&◌, length, is_some, nat_lt};
 ghost use Rattle.walk.specs.OwnBytes.{extents_in, touched};
 ghost use Rattle.device.specs.Machine.{Machine};
-ghost use Rattle.agree.specs.Agreement.{StoresAgree, MovesAgree};
+ghost use Rattle.agree.specs.Agreement.{StoresAgree, StoreKeeps, MovesAgree, MoveKeeps};
 
 use device::interface::Device;
 use map::interface::Map;
@@ -23,6 +23,7 @@ pub fn may_store<M: Map, D: Device>(
 ) -> bool
     ensures is { result ≡ not (is_some (touched (extents_in own.now) address size)) }
     ensures agree { StoresAgree D.machine (M.frames map.now) (M.free map.now) }
+    ensures keeps { result ≡ true → StoreKeeps D.machine (M.frames map.now) (M.free map.now) (extents_in own.now) address size }
 {
     is_clear(own, address, size)
 }
@@ -43,6 +44,7 @@ pub fn may_move<M: Map, D: Device>(
 ) -> bool
     ensures is { result ≡ ((not has_data && nat_lt page (length (M.frames map.now))) && M.free map.now frame) }
     ensures agree { MovesAgree D.machine (M.frames map.now) (M.free map.now) }
+    ensures keeps { result ≡ true → MoveKeeps D.machine (M.frames map.now) (M.free map.now) page frame has_data }
 {
     is_movable(map, page, frame, has_data)
 }

@@ -33,7 +33,7 @@ fn read_area<D: Device>(storage: &mut [u8], taken: &Taken, device: &mut D) -> us
 {
     read_pieces(
         storage,
-        Class::of(taken.code).backward(),
+        Class::from(taken.code).backward(),
         &taken.pieces,
         taken.ccw.value.count,
         device,
@@ -62,7 +62,7 @@ fn write_area<D: Device>(storage: &[u8], taken: &Taken, device: &mut D) -> usize
 fn reads(code: u8) -> bool
     ensures { result ≡ reading code }
 {
-    Class::of(code).reads()
+    Class::from(code).reads()
 }
 
 // Moves the bytes of one CCW, and answers how many.

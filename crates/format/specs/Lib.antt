@@ -4,3 +4,4 @@ pub mod FlagBits
 pub mod Layouts
 pub mod Refusals
 pub mod StatusWords
+pub mod Laying

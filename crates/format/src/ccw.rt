@@ -2,18 +2,18 @@ ghost use Rattle.std.specs.Prelude.{◌≡◌};
 ghost use Rattle.format.specs.Bytes.{reader};
 ghost use Rattle.format.specs.Layouts.{ccw_at, ccw_bytes};
 
-use super::big_endian::{half_word, half_word_to_bytes, three_bytes, word, word_to_bytes};
+use super::big_endian::three_bytes;
 use super::flags::Flags;
 
 // How a CCW is laid out.
-#[derive(Clone, Copy)]
+#[derive(Clone, Copy, Debug, PartialEq, Eq)]
 pub enum Format {
     Zero,
     One,
 }
 
 // A channel command word, whatever its layout.
-#[derive(Clone, Copy)]
+#[derive(Clone, Copy, Debug, Default, PartialEq, Eq)]
 pub struct Ccw {
     pub code: u8,
     pub flags: Flags,
@@ -28,15 +28,15 @@ impl Ccw {
         match format {
             Format::Zero => Ccw {
                 code: bytes[0],
-                flags: Flags::from_byte(bytes[4]),
-                count: half_word([bytes[6], bytes[7]]),
+                flags: Flags::from(bytes[4]),
+                count: u16::from_be_bytes([bytes[6], bytes[7]]),
                 address: three_bytes([bytes[1], bytes[2], bytes[3]]),
             },
             Format::One => Ccw {
                 code: bytes[0],
-                flags: Flags::from_byte(bytes[1]),
-                count: half_word([bytes[2], bytes[3]]),
-                address: word([bytes[4], bytes[5], bytes[6], bytes[7]]),
+                flags: Flags::from(bytes[1]),
+                count: u16::from_be_bytes([bytes[2], bytes[3]]),
+                address: u32::from_be_bytes([bytes[4], bytes[5], bytes[6], bytes[7]]),
             },
         }
     }
@@ -53,7 +53,7 @@ impl Ccw {
 fn lay_out(ccw: Ccw) -> [u8; 8]
     ensures { result ≡ ccw_bytes ccw }
 {
-    let [c0, c1] = half_word_to_bytes(ccw.count);
-    let [a0, a1, a2, a3] = word_to_bytes(ccw.address);
-    [ccw.code, ccw.flags.to_byte(), c0, c1, a0, a1, a2, a3]
+    let [c0, c1] = ccw.count.to_be_bytes();
+    let [a0, a1, a2, a3] = ccw.address.to_be_bytes();
+    [ccw.code, u8::from(ccw.flags), c0, c1, a0, a1, a2, a3]
 }

@@ -2,9 +2,10 @@ ghost use Rattle.std.specs.Prelude.{◌≡◌, slice_index_or};
 ghost use Rattle.format.specs.Classes.{class_of, class_in, class_table, reads_storage, backwards};
 
 use super::ccw::Format;
+use std::fmt;
 
 // What a command code asks for.
-#[derive(Clone, Copy)]
+#[derive(Clone, Copy, Debug, PartialEq, Eq)]
 pub enum Class {
     Invalid,
     Write,
@@ -28,11 +29,11 @@ fn only_eight(format: Format, code: u8, class: Class) -> Class
     }
 }
 
-impl Class {
-    // The class of a code by its low half and its low two bits, whatever the format.
-    pub fn of(code: u8) -> Class
-        ensures { result ≡ class_of code }
-    {
+// The class of a code by its low half and its low two bits, whatever the format.
+impl From<u8> for Class {
+    ghost from_gives = { λ code class. class ≡ class_of code };
+
+    fn from(code: u8) -> Class {
         match code % 16 {
             0 => Class::Invalid,
             4 => Class::Sense,
@@ -45,32 +46,42 @@ impl Class {
             },
         }
     }
+}
 
+impl Class {
     // The class of a code in a format, which is its entry in the table of all 256.
     pub fn in_format(format: Format, code: u8) -> Class
         ensures is { result ≡ class_in format code }
         ensures tabled { result ≡ slice_index_or (class_table format) code Class.Invalid }
     {
-        only_eight(format, code, Class::of(code))
+        only_eight(format, code, Class::from(code))
     }
 
     // Whether such a command moves bytes from the device into storage.
     pub fn reads(self) -> bool
         ensures { result ≡ reads_storage self }
     {
-        match self {
-            Class::Read | Class::Sense | Class::ReadBackward => true,
-            _ => false,
-        }
+        matches!(self, Class::Read | Class::Sense | Class::ReadBackward)
     }
 
     // Whether its area goes down from the address.
     pub fn backward(self) -> bool
         ensures { result ≡ backwards self }
     {
-        match self {
-            Class::ReadBackward => true,
-            _ => false,
-        }
+        self == Class::ReadBackward
+    }
+}
+
+impl fmt::Display for Class {
+    fn fmt<W: fmt::Write>(&self, f: &mut fmt::Formatter<W>) -> fmt::Result {
+        f.write_str(match self {
+            Class::Invalid => "invalid",
+            Class::Write => "write",
+            Class::Read => "read",
+            Class::Control => "control",
+            Class::Sense => "sense",
+            Class::TransferInChannel => "transfer in channel",
+            Class::ReadBackward => "read backward",
+        })
     }
 }

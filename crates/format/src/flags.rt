@@ -2,7 +2,7 @@ ghost use Rattle.std.specs.Prelude.{◌≡◌, ℕ, ◌<◌};
 ghost use Rattle.format.specs.FlagBits.{on, flags_of, flags_byte, any_flag, weight_if};
 
 // The flag byte of a CCW, a name for each bit from 80 down to 01.
-#[derive(Clone, Copy)]
+#[derive(Clone, Copy, Debug, Default, PartialEq, Eq)]
 pub struct Flags {
     // chain data
     pub cd: bool,
@@ -47,10 +47,10 @@ fn sum_of_weights(flags: Flags) -> u8
     high + low
 }
 
-impl Flags {
-    pub fn from_byte(byte: u8) -> Flags
-        ensures { result ≡ flags_of byte }
-    {
+impl From<u8> for Flags {
+    ghost from_gives = { λ byte flags. flags ≡ flags_of byte };
+
+    fn from(byte: u8) -> Flags {
         Flags {
             cd: bit(byte, 0x80),
             cc: bit(byte, 0x40),
@@ -62,26 +62,22 @@ impl Flags {
             mida: bit(byte, 0x01),
         }
     }
+}
 
-    // The byte, from which the flags come back.
-    pub fn to_byte(self) -> u8
-        ensures is { result ≡ flags_byte self }
-        ensures back { flags_of result ≡ self }
-    {
-        sum_of_weights(self)
+// The byte, from which the flags come back.
+impl From<Flags> for u8 {
+    ghost from_gives = { λ flags byte. (byte ≡ flags_byte flags) × (flags_of byte ≡ flags) };
+
+    fn from(flags: Flags) -> u8 {
+        sum_of_weights(flags)
     }
+}
 
+impl Flags {
     // Whether any bit is on.
     pub fn any(self) -> bool
         ensures { result ≡ any_flag self }
     {
-        self.cd
-            || self.cc
-            || self.sli
-            || self.skip
-            || self.pci
-            || self.ida
-            || self.suspend
-            || self.mida
+        self != Flags::default()
     }
 }

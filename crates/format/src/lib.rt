@@ -1,4 +1,4 @@
-// What stands in storage and in answers: CCWs of both formats, their flags and command classes,
+// What stands in storage and in answers: CCWs of both formats, their flags and command classes, refusals and status words.
 // Nothing here knows of devices, channels or guests.
 #![tactic(auto)]
 
@@ -6,6 +6,7 @@ pub mod big_endian;
 pub mod ccw;
 pub mod class;
 pub mod flags;
+pub mod laying;
 pub mod placed;
 pub mod refusal;
 pub mod status;

@@ -1,8 +1,11 @@
 ghost use Rattle.std.specs.Prelude.{◌≡◌};
 ghost use Rattle.format.specs.Refusals.{number_of, address_of};
 
+use std::error::Error;
+use std::fmt;
+
 // Why a call was refused. Each case has a number, and an address where one helps.
-#[derive(Clone, Copy)]
+#[derive(Clone, Copy, Debug, PartialEq, Eq)]
 pub enum Refusal {
     // A CCW address is no multiple of 8.
     Misaligned(u32),
@@ -104,3 +107,13 @@ impl Refusal {
         }
     }
 }
+
+impl fmt::Display for Refusal {
+    fn fmt<W: fmt::Write>(&self, f: &mut fmt::Formatter<W>) -> fmt::Result {
+        let number = self.number();
+        let address = self.address();
+        write!(f, "refusal {number}, address {address:08X}")
+    }
+}
+
+impl Error for Refusal {}

@@ -1,10 +1,8 @@
 ghost use Rattle.std.specs.Prelude.{◌≡◌};
 ghost use Rattle.format.specs.StatusWords.{status_bytes};
 
-use super::big_endian::{half_word_to_bytes, word_to_bytes};
-
 // How a channel program ended.
-#[derive(Clone, Copy)]
+#[derive(Clone, Copy, Debug, Default, PartialEq, Eq)]
 pub struct StatusWord {
     // 8 above the last CCW taken up
     pub ccw_address: u32,
@@ -14,19 +12,19 @@ pub struct StatusWord {
     pub residual: u16,
 }
 
-impl StatusWord {
-    pub fn to_bytes(self) -> [u8; 8]
-        ensures { result ≡ status_bytes self }
-    {
-        let [a0, a1, a2, a3] = word_to_bytes(self.ccw_address);
-        let [r0, r1] = half_word_to_bytes(self.residual);
+impl From<StatusWord> for [u8; 8] {
+    ghost from_gives = { λ word bytes. bytes ≡ status_bytes word };
+
+    fn from(word: StatusWord) -> [u8; 8] {
+        let [a0, a1, a2, a3] = word.ccw_address.to_be_bytes();
+        let [r0, r1] = word.residual.to_be_bytes();
         [
             a0,
             a1,
             a2,
             a3,
-            self.device_status,
-            self.subchannel_status,
+            word.device_status,
+            word.subchannel_status,
             r0,
             r1,
         ]

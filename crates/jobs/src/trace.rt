@@ -65,13 +65,13 @@ fn show_ccw(rt: &HostRuntime, place: Place, storage: &[u8], taken: &Taken) -> io
     }
     println!(rt)?;
     let ccw = taken.ccw.value;
-    let class = class_name(Class::of(taken.code));
+    let class = Class::from(taken.code);
     let state = if taken.before.is_some() {
         " still in force"
     } else {
         ""
     };
-    let flags = Bits(ccw.flags.to_byte(), &FLAGS);
+    let flags = Bits(u8::from(ccw.flags), &FLAGS);
     println!(rt;
         "  code    {:02X} {class}{state}, flags {flags}, count {}",
         taken.code, ccw.count
@@ -102,7 +102,7 @@ fn show_move(rt: &HostRuntime, taken: &Taken, notes: Notes) -> io::Result<()> {
         None => {}
     }
     let ccw = taken.ccw.value;
-    let reads = Class::of(taken.code).reads();
+    let reads = Class::from(taken.code).reads();
     let moved = if reads { notes.given } else { notes.taken };
     let way = match (reads, ccw.flags.skip) {
         (false, _) => "from storage to the device",

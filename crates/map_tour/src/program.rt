@@ -60,7 +60,7 @@ fn write(storage: &mut [u8], at: usize, bytes: &[u8]) {
 }
 
 fn write_ccw(storage: &mut [u8], at: usize, code: u8, flags: u8, count: u16, address: u32) {
-    let flags = Flags::from_byte(flags);
+    let flags = Flags::from(flags);
     let ccw = Ccw {
         code,
         flags,

@@ -33,7 +33,7 @@ fn check_address(limit: usize, address: u32) -> Result<(), Broken>
 fn transfers<S: Storage>(storage: &S, format: Format, address: u32) -> bool
     ensures { result ≡ transfer_at format (reader (S.bytes storage.now)) address }
 {
-    match Class::of(read_ccw(storage, format, address).value.code) {
+    match Class::from(read_ccw(storage, format, address).value.code) {
         Class::TransferInChannel => true,
         _ => false,
     }

@@ -41,7 +41,7 @@ fn with_area<S: Storage>(
         (λ pieces. Ok (cell_at command ccw.address ccw.value pieces)) }
 {
     let code = command.unwrap_or(ccw.value.code);
-    let pieces = area_pieces(storage, ccw, Class::of(code).backward())?;
+    let pieces = area_pieces(storage, ccw, Class::from(code).backward())?;
     Ok(Taken {
         ccw,
         before: command,

@@ -133,7 +133,7 @@ fn any_touches(own: &OwnBytes, backward: bool, pieces: &Pieces) -> bool
 fn overwrites_own(own: &OwnBytes, taken: &Taken) -> bool
     ensures { result ≡ overwrites (extents_in own.now) (cell_of taken.now) }
 {
-    let class = Class::of(taken.code);
+    let class = Class::from(taken.code);
     class.reads()
         && !taken.ccw.value.flags.skip
         && any_touches(own, class.backward(), &taken.pieces)

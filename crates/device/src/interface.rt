@@ -3,7 +3,7 @@ ghost use Rattle.device.specs.Machine.{Machine, due, room};
 ghost use Rattle.device.specs.Laws.{Laws};
 
 // How a device answers a command code.
-#[derive(Clone, Copy)]
+#[derive(Clone, Copy, Debug, PartialEq, Eq)]
 pub enum Begun {
     // Done at once, with this status.
     Immediate(u8),

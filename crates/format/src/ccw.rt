@@ -4,12 +4,22 @@ ghost use Rattle.format.specs.Layouts.{ccw_at, ccw_bytes};
 
 use super::big_endian::three_bytes;
 use super::flags::Flags;
+use std::fmt;
 
 // How a CCW is laid out.
 #[derive(Clone, Copy, Debug, PartialEq, Eq)]
 pub enum Format {
     Zero,
     One,
+}
+
+impl fmt::Display for Format {
+    fn fmt<W: fmt::Write>(&self, f: &mut fmt::Formatter<W>) -> fmt::Result {
+        f.write_str(match self {
+            Format::Zero => "0",
+            Format::One => "1",
+        })
+    }
 }
 
 // A channel command word, whatever its layout.

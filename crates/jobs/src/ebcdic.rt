@@ -50,7 +50,7 @@ fn decode(byte: u8) -> u8 {
 }
 
 // Bytes of EBCDIC as text.
-#[derive(Clone, Copy)]
+#[derive(Clone, Copy, Debug)]
 pub struct Text<'a>(pub &'a [u8]);
 
 impl<'a> fmt::Display for Text<'a> {
@@ -64,7 +64,7 @@ impl<'a> fmt::Display for Text<'a> {
 }
 
 // Bytes in hexadecimal, a space before each.
-#[derive(Clone, Copy)]
+#[derive(Clone, Copy, Debug)]
 pub struct Hex<'a>(pub &'a [u8]);
 
 impl<'a> fmt::Display for Hex<'a> {

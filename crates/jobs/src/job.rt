@@ -1,11 +1,12 @@
 use super::ebcdic::encode;
+use format::laying::put_at;
 use std::alloc::{AllocError, Global};
 
 // How many bytes the storage of a job has.
 const STORAGE: usize = 16384;
 
 // What stands in storage, with the address where it stands.
-#[derive(Clone, Copy)]
+#[derive(Clone, Copy, Debug)]
 pub enum Entry {
     // A CCW of format 0: its code, flags, count and address.
     Ccw(u32, u8, u8, u16, u32),
@@ -17,7 +18,7 @@ pub enum Entry {
 }
 
 // A channel program with its data.
-#[derive(Clone, Copy)]
+#[derive(Clone, Copy, Debug)]
 pub struct Job {
     pub title: &'static str,
     // what happens, in words
@@ -27,26 +28,20 @@ pub struct Job {
 }
 
 // A job on a console where this line waits.
-#[derive(Clone, Copy)]
+#[derive(Clone, Copy, Debug)]
 pub struct ConsoleJob {
     pub line: &'static str,
     pub job: Job,
 }
 
 // A job that is given so many steps and is then halted.
-#[derive(Clone, Copy)]
+#[derive(Clone, Copy, Debug)]
 pub struct Halt {
     pub job: ConsoleJob,
     pub steps: u64,
 }
 
-// Bytes behind the end of storage are left out.
-fn write(storage: &mut [u8], at: u32, bytes: &[u8]) {
-    for (place, byte) in storage.iter_mut().skip(at as usize).zip(bytes) {
-        *place = *byte;
-    }
-}
-
+// Characters behind the end of storage are left out.
 fn write_text(storage: &mut [u8], at: u32, text: &str) {
     for (place, character) in storage.iter_mut().skip(at as usize).zip(text.as_bytes()) {
         *place = encode(*character);
@@ -58,11 +53,11 @@ fn write_entry(storage: &mut [u8], entry: Entry) {
         Entry::Ccw(at, code, flags, count, address) => {
             let [c0, c1] = count.to_be_bytes();
             let [_, a1, a2, a3] = address.to_be_bytes();
-            write(storage, at, &[code, a1, a2, a3, flags, 0, c0, c1]);
+            put_at(storage, at as usize, &[code, a1, a2, a3, flags, 0, c0, c1]);
         }
-        Entry::Word(at, value) => write(storage, at, &value.to_be_bytes()),
+        Entry::Word(at, value) => put_at(storage, at as usize, &value.to_be_bytes()),
         Entry::Text(at, text) => write_text(storage, at, text),
-        Entry::Byte(at, byte) => write(storage, at, &[byte]),
+        Entry::Byte(at, byte) => put_at(storage, at as usize, &[byte]),
     }
 }
 

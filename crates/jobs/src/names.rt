@@ -1,4 +1,3 @@
-use format::class::Class;
 use format::refusal::Refusal;
 use std::fmt;
 
@@ -30,7 +29,7 @@ pub const SUBCHANNEL_STATUS: [(u8, &str); 2] = [
 ];
 
 // A byte, and the weights and names of its bits.
-#[derive(Clone, Copy)]
+#[derive(Clone, Copy, Debug)]
 pub struct Bits<'a>(pub u8, pub &'a [(u8, &'static str)]);
 
 impl<'a> fmt::Display for Bits<'a> {
@@ -49,31 +48,24 @@ impl<'a> fmt::Display for Bits<'a> {
     }
 }
 
-pub(crate) fn class_name(class: Class) -> &'static str {
-    match class {
-        Class::Invalid => "invalid",
-        Class::Write => "write",
-        Class::Read => "read",
-        Class::Control => "control",
-        Class::Sense => "sense",
-        Class::TransferInChannel => "transfer in channel",
-        Class::ReadBackward => "read backward",
-    }
-}
-
 // The rule that a refusal stands for, in words.
-pub(crate) fn rule_words(refusal: Refusal) -> &'static str {
-    match refusal {
-        Refusal::Misaligned(_) => "a CCW address is a multiple of 8",
-        Refusal::CcwOutside(_) => "the 8 bytes of a CCW are inside storage",
-        Refusal::TransferMisplaced(_) => "a TIC is neither the first CCW nor reached by a TIC",
-        Refusal::CodeInvalid(_) => "the code is valid, unless a command is in force",
-        Refusal::FlagRefused(_) => "no flag 08, 02 or 01 is on",
-        Refusal::CountZero(_) => "the count is not 0",
-        Refusal::ListMisaligned(_) => "the address of an indirect list is a multiple of 4",
-        Refusal::WordOutside(_) => "the 4 bytes of an indirect word are inside storage",
-        Refusal::WordOffBoundary(_) => "a later indirect word starts its block",
-        Refusal::AreaOutside(_) => "every byte of the area is inside storage",
-        _ => "another rule",
+#[derive(Clone, Copy, Debug)]
+pub struct Rule(pub Refusal);
+
+impl fmt::Display for Rule {
+    fn fmt<W: fmt::Write>(&self, f: &mut fmt::Formatter<W>) -> fmt::Result {
+        f.write_str(match self.0 {
+            Refusal::Misaligned(_) => "a CCW address is a multiple of 8",
+            Refusal::CcwOutside(_) => "the 8 bytes of a CCW are inside storage",
+            Refusal::TransferMisplaced(_) => "a TIC is neither the first CCW nor reached by a TIC",
+            Refusal::CodeInvalid(_) => "the code is valid, unless a command is in force",
+            Refusal::FlagRefused(_) => "no flag 08, 02 or 01 is on",
+            Refusal::CountZero(_) => "the count is not 0",
+            Refusal::ListMisaligned(_) => "the address of an indirect list is a multiple of 4",
+            Refusal::WordOutside(_) => "the 4 bytes of an indirect word are inside storage",
+            Refusal::WordOffBoundary(_) => "a later indirect word starts its block",
+            Refusal::AreaOutside(_) => "every byte of the area is inside storage",
+            _ => "another rule",
+        })
     }
 }

@@ -1,5 +1,5 @@
 use super::ebcdic::Hex;
-use super::names::{Bits, DEVICE_STATUS, FLAGS, class_name, rule_words};
+use super::names::{Bits, DEVICE_STATUS, FLAGS, Rule};
 use super::watched::{Notes, Watched};
 use channel::run::Run;
 use device::interface::{Begun, Device};
@@ -114,9 +114,9 @@ fn show_move(rt: &HostRuntime, taken: &Taken, notes: Notes) -> io::Result<()> {
 
 fn show_broken(rt: &HostRuntime, place: Place, broken: Broken) -> io::Result<()> {
     let number = broken.refusal.number();
-    let words = rule_words(broken.refusal);
+    let rule = Rule(broken.refusal);
     println!(rt; "CCW {:06X}: refused", place.address)?;
-    println!(rt; "  broken  rule {number}: {words}")?;
+    println!(rt; "  broken  rule {number}: {rule}")?;
     println!(rt; "  names   {:08X}", broken.refusal.address())
 }
 

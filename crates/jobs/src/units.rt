@@ -1,6 +1,6 @@
 use super::ebcdic::{Text, encode};
 use super::watched::Watched;
-use anyhow::anyhow;
+use anyhow::Context;
 use console::state::access::new_console;
 use console::state::{Console, ConsoleModel};
 use disk::blocks::{BLOCK_SIZE, BLOCKS, Location};
@@ -17,14 +17,9 @@ pub trait Shown {
 
 // A console where this line waits.
 pub(crate) fn console_with(heap: Global, line: &str) -> anyhow::Result<Watched<Console>> {
-    let mut bytes = Vec::new(heap);
-    for character in line.as_bytes() {
-        bytes.push(encode(*character))?;
-    }
-    match new_console(&bytes) {
-        Some(console) => Ok(Watched::new(console)),
-        None => Err(anyhow!("the line is too long")),
-    }
+    let bytes: Vec<u8> = line.bytes().map(encode).collect(heap)?;
+    let console = new_console(&bytes).context("the line is too long")?;
+    Ok(Watched::new(console))
 }
 
 impl Shown for ConsoleModel {
@@ -38,10 +33,8 @@ impl Shown for ConsoleModel {
 
 // A tape with no blocks.
 pub(crate) fn empty_tape() -> anyhow::Result<Watched<Tape>> {
-    match new_tape(&[], &[]) {
-        Some(tape) => Ok(Watched::new(tape)),
-        None => Err(anyhow!("no tape was made")),
-    }
+    let tape = new_tape(&[], &[]).context("no tape was made")?;
+    Ok(Watched::new(tape))
 }
 
 impl Shown for TapeModel {
@@ -61,13 +54,10 @@ impl Shown for TapeModel {
 
 // How many bytes stand before the zeros at the end.
 fn length_without_zeros(bytes: &[u8]) -> usize {
-    let mut length = 0;
-    for (at, byte) in bytes.iter().enumerate() {
-        if *byte != 0 {
-            length = at + 1;
-        }
-    }
-    length
+    bytes
+        .iter()
+        .rposition(|byte| *byte != 0)
+        .map_or(0, |last| last + 1)
 }
 
 // A block that stands at this address of a disk, if it is not all zeros.
@@ -76,7 +66,7 @@ fn show_block(rt: &HostRuntime, index: usize, address: usize, block: &[u8]) -> i
     if length == 0 {
         return Ok(());
     }
-    let front = Text(block.get(0..length).unwrap_or(block));
+    let front = Text(block.get(..length).unwrap_or(block));
     println!(rt;
         "  block {index} at {address:06X}, length {length} without the zeros at its end: \"{front}\""
     )

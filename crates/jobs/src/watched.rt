@@ -1,7 +1,7 @@
 use device::interface::{Begun, Device};
 
 // What was said to a device and what it answered.
-#[derive(Clone, Copy)]
+#[derive(Clone, Copy, Debug, Default, PartialEq, Eq)]
 pub struct Notes {
     pub begun: Option<Begun>,
     // bytes handed out, and bytes accepted
@@ -9,13 +9,6 @@ pub struct Notes {
     pub taken: usize,
     pub ended: Option<u8>,
 }
-
-const NOTHING: Notes = Notes {
-    begun: None,
-    given: 0,
-    taken: 0,
-    ended: None,
-};
 
 // A device that hands every call on to another, and keeps notes of them.
 #[derive(Drop)]
@@ -28,13 +21,13 @@ impl<D> Watched<D> {
     pub(crate) fn new(device: D) -> Watched<D> {
         Watched {
             device,
-            notes: NOTHING,
+            notes: Notes::default(),
         }
     }
 
     // Clears the notes.
     pub(crate) fn forget(&mut self) {
-        self.notes = NOTHING;
+        self.notes = Notes::default();
     }
 }
 

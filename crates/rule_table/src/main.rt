@@ -9,16 +9,12 @@ mod storage;
 mod table;
 mod tally;
 
-use anyhow::anyhow;
+use anyhow::ensure;
 use table::SECTIONS;
 use tally::Tally;
 
 fn check_all(rt: &HostRuntime) -> anyhow::Result<()> {
-    let mut tally = Tally {
-        format_0: 0,
-        format_1: 0,
-        wrong: 0,
-    };
+    let mut tally = Tally::default();
     for section in &SECTIONS {
         tally.check(rt, section)?;
     }
@@ -26,9 +22,7 @@ fn check_all(rt: &HostRuntime) -> anyhow::Result<()> {
         "{} rows in format 0, {} in format 1, {} wrong",
         tally.format_0, tally.format_1, tally.wrong
     )?;
-    if tally.wrong > 0 {
-        return Err(anyhow!("rows are wrong"));
-    }
+    ensure!(tally.wrong == 0, "rows are wrong");
     Ok(())
 }
 

@@ -1,22 +1,6 @@
 use format::ccw::Format;
+use rules::pieces::Piece;
 use rules::place::Place;
-
-// The formats in which a row is checked.
-#[derive(Clone, Copy)]
-pub enum Formats {
-    Both,
-    Zero,
-    One,
-}
-
-impl Formats {
-    pub(crate) fn include(self, format: Format) -> bool {
-        match (self, format) {
-            (Formats::Zero, Format::One) | (Formats::One, Format::Zero) => false,
-            _ => true,
-        }
-    }
-}
 
 // What is written into storage, with the address where it is written.
 #[derive(Clone, Copy)]
@@ -65,9 +49,8 @@ impl At {
 // What taking up the place must answer.
 #[derive(Clone, Copy)]
 pub enum Expected {
-    // The CCW's address, the code in force with it, and the pieces of its area: the first address and
-    // the length of each.
-    Accepted(u32, u8, &'static [(usize, usize)]),
+    // The CCW's address, the code in force with it, and the pieces of its area.
+    Accepted(u32, u8, &'static [Piece]),
     // The broken rule, the address that it names, and the one that a status word counts from.
     Refused(u8, u32, u32),
 }
@@ -76,7 +59,7 @@ pub enum Expected {
 #[derive(Clone, Copy)]
 pub struct Row {
     pub name: &'static str,
-    pub formats: Formats,
+    pub formats: &'static [Format],
     pub length: usize,
     pub contents: &'static [Entry],
     pub place: At,

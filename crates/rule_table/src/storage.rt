@@ -1,5 +1,6 @@
 use super::row::{Entry, Row};
 use format::ccw::Format;
+use format::laying::put_at;
 use std::alloc::{AllocError, Global};
 
 // A byte of a format 0 CCW that has no meaning, so that any value must do.
@@ -7,6 +8,7 @@ const IGNORED: u8 = 0xFF;
 
 const TIC: u8 = 0x08;
 
+// Laid out by hand, so that the table does not rest on the code that it checks.
 fn ccw_bytes(format: Format, code: u8, flags: u8, count: u16, address: u32) -> [u8; 8] {
     let [c0, c1] = count.to_be_bytes();
     let [a0, a1, a2, a3] = address.to_be_bytes();
@@ -16,20 +18,21 @@ fn ccw_bytes(format: Format, code: u8, flags: u8, count: u16, address: u32) -> [
     }
 }
 
-// Bytes behind the end of storage are left out.
-fn write(storage: &mut [u8], at: u32, bytes: &[u8]) {
-    for (place, byte) in storage.iter_mut().skip(at as usize).zip(bytes) {
-        *place = *byte;
-    }
-}
-
 fn write_entry(storage: &mut [u8], format: Format, entry: Entry) {
     match entry {
         Entry::Ccw(at, code, flags, count, address) => {
-            write(storage, at, &ccw_bytes(format, code, flags, count, address));
+            put_at(
+                storage,
+                at as usize,
+                &ccw_bytes(format, code, flags, count, address),
+            );
         }
-        Entry::Tic(at, target) => write(storage, at, &ccw_bytes(format, TIC, 0x00, 0, target)),
-        Entry::Word(at, value) => write(storage, at, &value.to_be_bytes()),
+        Entry::Tic(at, target) => put_at(
+            storage,
+            at as usize,
+            &ccw_bytes(format, TIC, 0x00, 0, target),
+        ),
+        Entry::Word(at, value) => put_at(storage, at as usize, &value.to_be_bytes()),
     }
 }
 

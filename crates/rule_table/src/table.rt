@@ -1,6 +1,7 @@
 use super::row::Section;
 use areas::RULE_10;
 use commands::{RULE_4, RULE_5, RULE_6};
+use format::ccw::Format;
 use lists::{RULE_7, RULE_8, RULE_9};
 use places::{RULE_1, RULE_2, RULE_3};
 
@@ -8,6 +9,13 @@ mod areas;
 mod commands;
 mod lists;
 mod places;
+
+// The formats in which a row is checked.
+const BOTH: &[Format] = &[Format::Zero, Format::One];
+
+const ZERO: &[Format] = &[Format::Zero];
+
+const ONE: &[Format] = &[Format::One];
 
 // Command codes, one of each class that the rows need.
 const WRITE: u8 = 0x01;

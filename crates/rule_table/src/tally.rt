@@ -6,7 +6,7 @@ use rules::storage::Plain;
 use rules::taking_up::take_up;
 
 // How many rows were checked, and how many of them were answered wrongly.
-#[derive(Drop)]
+#[derive(Clone, Copy, Debug, Default)]
 pub struct Tally {
     pub format_0: u32,
     pub format_1: u32,
@@ -18,8 +18,8 @@ impl Tally {
     fn check_row(&mut self, rt: &HostRuntime, format: Format, row: &Row) -> anyhow::Result<()> {
         let storage = build(rt.alloc(), format, row)?;
         let taken = take_up(&Plain { storage: &storage }, format, row.place.place());
-        let digit = self.count(format);
-        print!(rt; "  format {digit}  {:<54} {}: ", row.name, row.expected)?;
+        self.count(format);
+        print!(rt; "  format {format}  {:<54} {}: ", row.name, row.expected)?;
         if row.expected.is(&taken) {
             println!(rt; "as expected")?;
         } else {
@@ -29,28 +29,20 @@ impl Tally {
         Ok(())
     }
 
-    // Counts a row, and gives the number of its format.
-    fn count(&mut self, format: Format) -> u8 {
-        match format {
-            Format::Zero => {
-                self.format_0 = self.format_0.saturating_add(1);
-                0
-            }
-            Format::One => {
-                self.format_1 = self.format_1.saturating_add(1);
-                1
-            }
-        }
+    fn count(&mut self, format: Format) {
+        let rows = match format {
+            Format::Zero => &mut self.format_0,
+            Format::One => &mut self.format_1,
+        };
+        *rows = rows.saturating_add(1);
     }
 
     // Checks the rows of a rule, each in its formats.
     pub(crate) fn check(&mut self, rt: &HostRuntime, section: &Section) -> anyhow::Result<()> {
         println!(rt; "Rule {}: {}", section.rule, section.title)?;
         for row in section.rows {
-            for format in [Format::Zero, Format::One] {
-                if row.formats.include(format) {
-                    self.check_row(rt, format, row)?;
-                }
+            for format in row.formats {
+                self.check_row(rt, *format, row)?;
             }
         }
         Ok(())

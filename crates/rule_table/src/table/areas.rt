@@ -1,5 +1,6 @@
-use super::{CONTROL, READ, READ_BACKWARD, WRITE};
-use crate::row::{At, Entry, Expected, Formats, Row, Section};
+use super::{BOTH, CONTROL, ONE, READ, READ_BACKWARD, WRITE, ZERO};
+use crate::row::{At, Entry, Expected, Row, Section};
+use rules::pieces::Piece;
 
 pub const RULE_10: Section = Section {
     rule: 10,
@@ -7,15 +8,22 @@ pub const RULE_10: Section = Section {
     rows: &[
         Row {
             name: "from 1FFF, 1 byte",
-            formats: Formats::Both,
+            formats: BOTH,
             length: 0x2000,
             contents: &[Entry::Ccw(0x100, WRITE, 0x00, 1, 0x1FFF)],
             place: At::First(0x100),
-            expected: Expected::Accepted(0x100, WRITE, &[(0x1FFF, 1)]),
+            expected: Expected::Accepted(
+                0x100,
+                WRITE,
+                &[Piece {
+                    first: 0x1FFF,
+                    size: 1,
+                }],
+            ),
         },
         Row {
             name: "from 1FFF, 2 bytes",
-            formats: Formats::Both,
+            formats: BOTH,
             length: 0x2000,
             contents: &[Entry::Ccw(0x100, WRITE, 0x00, 2, 0x1FFF)],
             place: At::First(0x100),
@@ -23,7 +31,7 @@ pub const RULE_10: Section = Section {
         },
         Row {
             name: "from 2000, 1 byte",
-            formats: Formats::Both,
+            formats: BOTH,
             length: 0x2000,
             contents: &[Entry::Ccw(0x100, WRITE, 0x00, 1, 0x2000)],
             place: At::First(0x100),
@@ -31,7 +39,7 @@ pub const RULE_10: Section = Section {
         },
         Row {
             name: "from 2001, 1 byte",
-            formats: Formats::Both,
+            formats: BOTH,
             length: 0x2000,
             contents: &[Entry::Ccw(0x100, WRITE, 0x00, 1, 0x2001)],
             place: At::First(0x100),
@@ -39,23 +47,49 @@ pub const RULE_10: Section = Section {
         },
         Row {
             name: "from 7FE, 4 bytes",
-            formats: Formats::Both,
+            formats: BOTH,
             length: 0x2000,
             contents: &[Entry::Ccw(0x100, WRITE, 0x00, 4, 0x7FE)],
             place: At::First(0x100),
-            expected: Expected::Accepted(0x100, WRITE, &[(0x7FE, 2), (0x800, 2)]),
+            expected: Expected::Accepted(
+                0x100,
+                WRITE,
+                &[
+                    Piece {
+                        first: 0x7FE,
+                        size: 2,
+                    },
+                    Piece {
+                        first: 0x800,
+                        size: 2,
+                    },
+                ],
+            ),
         },
         Row {
             name: "from 1000, 4096 bytes",
-            formats: Formats::Both,
+            formats: BOTH,
             length: 0x2000,
             contents: &[Entry::Ccw(0x100, READ, 0x00, 4096, 0x1000)],
             place: At::First(0x100),
-            expected: Expected::Accepted(0x100, READ, &[(0x1000, 2048), (0x1800, 2048)]),
+            expected: Expected::Accepted(
+                0x100,
+                READ,
+                &[
+                    Piece {
+                        first: 0x1000,
+                        size: 2048,
+                    },
+                    Piece {
+                        first: 0x1800,
+                        size: 2048,
+                    },
+                ],
+            ),
         },
         Row {
             name: "from 1000, 4097 bytes",
-            formats: Formats::Both,
+            formats: BOTH,
             length: 0x2000,
             contents: &[Entry::Ccw(0x100, READ, 0x00, 4097, 0x1000)],
             place: At::First(0x100),
@@ -63,7 +97,7 @@ pub const RULE_10: Section = Section {
         },
         Row {
             name: "from 1FFF, 2 bytes, SKIP",
-            formats: Formats::Both,
+            formats: BOTH,
             length: 0x2000,
             contents: &[Entry::Ccw(0x100, READ, 0x10, 2, 0x1FFF)],
             place: At::First(0x100),
@@ -71,7 +105,7 @@ pub const RULE_10: Section = Section {
         },
         Row {
             name: "from 1FFF, 2 bytes, a control command",
-            formats: Formats::Both,
+            formats: BOTH,
             length: 0x2000,
             contents: &[Entry::Ccw(0x100, CONTROL, 0x00, 2, 0x1FFF)],
             place: At::First(0x100),
@@ -79,7 +113,7 @@ pub const RULE_10: Section = Section {
         },
         Row {
             name: "TIC to a CCW from 1FFF, 2 bytes",
-            formats: Formats::Both,
+            formats: BOTH,
             length: 0x2000,
             contents: &[
                 Entry::Ccw(0x100, WRITE, 0x00, 2, 0x1FFF),
@@ -90,7 +124,7 @@ pub const RULE_10: Section = Section {
         },
         Row {
             name: "from the highest address",
-            formats: Formats::Zero,
+            formats: ZERO,
             length: 0x2000,
             contents: &[Entry::Ccw(0x100, WRITE, 0x00, 65535, 0xFFFFFF)],
             place: At::First(0x100),
@@ -98,7 +132,7 @@ pub const RULE_10: Section = Section {
         },
         Row {
             name: "from the highest address",
-            formats: Formats::One,
+            formats: ONE,
             length: 0x2000,
             contents: &[Entry::Ccw(0x100, WRITE, 0x00, 65535, 0xFFFFFFFF)],
             place: At::First(0x100),
@@ -106,15 +140,22 @@ pub const RULE_10: Section = Section {
         },
         Row {
             name: "backward from 1FFF, 1 byte",
-            formats: Formats::Both,
+            formats: BOTH,
             length: 0x2000,
             contents: &[Entry::Ccw(0x100, READ_BACKWARD, 0x00, 1, 0x1FFF)],
             place: At::First(0x100),
-            expected: Expected::Accepted(0x100, READ_BACKWARD, &[(0x1FFF, 1)]),
+            expected: Expected::Accepted(
+                0x100,
+                READ_BACKWARD,
+                &[Piece {
+                    first: 0x1FFF,
+                    size: 1,
+                }],
+            ),
         },
         Row {
             name: "backward from 2000, 1 byte",
-            formats: Formats::Both,
+            formats: BOTH,
             length: 0x2000,
             contents: &[Entry::Ccw(0x100, READ_BACKWARD, 0x00, 1, 0x2000)],
             place: At::First(0x100),
@@ -122,7 +163,7 @@ pub const RULE_10: Section = Section {
         },
         Row {
             name: "backward from 2001, 2 bytes",
-            formats: Formats::Both,
+            formats: BOTH,
             length: 0x2000,
             contents: &[Entry::Ccw(0x100, READ_BACKWARD, 0x00, 2, 0x2001)],
             place: At::First(0x100),
@@ -130,15 +171,22 @@ pub const RULE_10: Section = Section {
         },
         Row {
             name: "backward from 1, 2 bytes",
-            formats: Formats::Both,
+            formats: BOTH,
             length: 0x2000,
             contents: &[Entry::Ccw(0x100, READ_BACKWARD, 0x00, 2, 0x01)],
             place: At::First(0x100),
-            expected: Expected::Accepted(0x100, READ_BACKWARD, &[(0x01, 2)]),
+            expected: Expected::Accepted(
+                0x100,
+                READ_BACKWARD,
+                &[Piece {
+                    first: 0x01,
+                    size: 2,
+                }],
+            ),
         },
         Row {
             name: "backward from 1, 3 bytes",
-            formats: Formats::Both,
+            formats: BOTH,
             length: 0x2000,
             contents: &[Entry::Ccw(0x100, READ_BACKWARD, 0x00, 3, 0x01)],
             place: At::First(0x100),
@@ -146,23 +194,43 @@ pub const RULE_10: Section = Section {
         },
         Row {
             name: "backward from 801, 4 bytes",
-            formats: Formats::Both,
+            formats: BOTH,
             length: 0x2000,
             contents: &[Entry::Ccw(0x100, READ_BACKWARD, 0x00, 4, 0x801)],
             place: At::First(0x100),
-            expected: Expected::Accepted(0x100, READ_BACKWARD, &[(0x801, 2), (0x7FF, 2)]),
+            expected: Expected::Accepted(
+                0x100,
+                READ_BACKWARD,
+                &[
+                    Piece {
+                        first: 0x801,
+                        size: 2,
+                    },
+                    Piece {
+                        first: 0x7FF,
+                        size: 2,
+                    },
+                ],
+            ),
         },
         Row {
             name: "backward in force, from 1, 2 bytes",
-            formats: Formats::Both,
+            formats: BOTH,
             length: 0x2000,
             contents: &[Entry::Ccw(0x100, READ, 0x00, 2, 0x01)],
             place: At::InForce(0x100, READ_BACKWARD),
-            expected: Expected::Accepted(0x100, READ_BACKWARD, &[(0x01, 2)]),
+            expected: Expected::Accepted(
+                0x100,
+                READ_BACKWARD,
+                &[Piece {
+                    first: 0x01,
+                    size: 2,
+                }],
+            ),
         },
         Row {
             name: "backward in force, from 1, 3 bytes",
-            formats: Formats::Both,
+            formats: BOTH,
             length: 0x2000,
             contents: &[Entry::Ccw(0x100, READ, 0x00, 3, 0x01)],
             place: At::InForce(0x100, READ_BACKWARD),
@@ -170,26 +238,40 @@ pub const RULE_10: Section = Section {
         },
         Row {
             name: "code 0C with a read in force, from 1, 3 bytes",
-            formats: Formats::Both,
+            formats: BOTH,
             length: 0x2000,
             contents: &[Entry::Ccw(0x100, READ_BACKWARD, 0x00, 3, 0x01)],
             place: At::InForce(0x100, READ),
-            expected: Expected::Accepted(0x100, READ, &[(0x01, 3)]),
+            expected: Expected::Accepted(
+                0x100,
+                READ,
+                &[Piece {
+                    first: 0x01,
+                    size: 3,
+                }],
+            ),
         },
         Row {
             name: "a list, from 1EFF, 1 byte",
-            formats: Formats::Both,
+            formats: BOTH,
             length: 0x1F00,
             contents: &[
                 Entry::Ccw(0x100, READ, 0x04, 1, 0x200),
                 Entry::Word(0x200, 0x1EFF),
             ],
             place: At::First(0x100),
-            expected: Expected::Accepted(0x100, READ, &[(0x1EFF, 1)]),
+            expected: Expected::Accepted(
+                0x100,
+                READ,
+                &[Piece {
+                    first: 0x1EFF,
+                    size: 1,
+                }],
+            ),
         },
         Row {
             name: "a list, from 1EFF, 2 bytes",
-            formats: Formats::Both,
+            formats: BOTH,
             length: 0x1F00,
             contents: &[
                 Entry::Ccw(0x100, READ, 0x04, 2, 0x200),
@@ -200,7 +282,7 @@ pub const RULE_10: Section = Section {
         },
         Row {
             name: "a list, from 1F00, 1 byte",
-            formats: Formats::Both,
+            formats: BOTH,
             length: 0x1F00,
             contents: &[
                 Entry::Ccw(0x100, READ, 0x04, 1, 0x200),
@@ -211,7 +293,7 @@ pub const RULE_10: Section = Section {
         },
         Row {
             name: "a list, second word 1800, up to the end",
-            formats: Formats::Both,
+            formats: BOTH,
             length: 0x1802,
             contents: &[
                 Entry::Ccw(0x100, READ, 0x04, 4, 0x200),
@@ -219,11 +301,24 @@ pub const RULE_10: Section = Section {
                 Entry::Word(0x204, 0x1800),
             ],
             place: At::First(0x100),
-            expected: Expected::Accepted(0x100, READ, &[(0x7FE, 2), (0x1800, 2)]),
+            expected: Expected::Accepted(
+                0x100,
+                READ,
+                &[
+                    Piece {
+                        first: 0x7FE,
+                        size: 2,
+                    },
+                    Piece {
+                        first: 0x1800,
+                        size: 2,
+                    },
+                ],
+            ),
         },
         Row {
             name: "a list, second word 1800, storage 1 byte shorter",
-            formats: Formats::Both,
+            formats: BOTH,
             length: 0x1801,
             contents: &[
                 Entry::Ccw(0x100, READ, 0x04, 4, 0x200),
@@ -235,7 +330,7 @@ pub const RULE_10: Section = Section {
         },
         Row {
             name: "a list, the highest word",
-            formats: Formats::Both,
+            formats: BOTH,
             length: 0x2000,
             contents: &[
                 Entry::Ccw(0x100, READ, 0x04, 1, 0x200),
@@ -246,18 +341,25 @@ pub const RULE_10: Section = Section {
         },
         Row {
             name: "backward, a list, from 1EFF, 1 byte",
-            formats: Formats::Both,
+            formats: BOTH,
             length: 0x1F00,
             contents: &[
                 Entry::Ccw(0x100, READ_BACKWARD, 0x04, 1, 0x200),
                 Entry::Word(0x200, 0x1EFF),
             ],
             place: At::First(0x100),
-            expected: Expected::Accepted(0x100, READ_BACKWARD, &[(0x1EFF, 1)]),
+            expected: Expected::Accepted(
+                0x100,
+                READ_BACKWARD,
+                &[Piece {
+                    first: 0x1EFF,
+                    size: 1,
+                }],
+            ),
         },
         Row {
             name: "backward, a list, from 1F00, 1 byte",
-            formats: Formats::Both,
+            formats: BOTH,
             length: 0x1F00,
             contents: &[
                 Entry::Ccw(0x100, READ_BACKWARD, 0x04, 1, 0x200),
@@ -268,7 +370,7 @@ pub const RULE_10: Section = Section {
         },
         Row {
             name: "backward, a list, words 000 and 17FF",
-            formats: Formats::Both,
+            formats: BOTH,
             length: 0x2000,
             contents: &[
                 Entry::Ccw(0x100, READ_BACKWARD, 0x04, 2, 0x200),
@@ -276,11 +378,24 @@ pub const RULE_10: Section = Section {
                 Entry::Word(0x204, 0x17FF),
             ],
             place: At::First(0x100),
-            expected: Expected::Accepted(0x100, READ_BACKWARD, &[(0x00, 1), (0x17FF, 1)]),
+            expected: Expected::Accepted(
+                0x100,
+                READ_BACKWARD,
+                &[
+                    Piece {
+                        first: 0x00,
+                        size: 1,
+                    },
+                    Piece {
+                        first: 0x17FF,
+                        size: 1,
+                    },
+                ],
+            ),
         },
         Row {
             name: "backward, a list, words 000 and 27FF",
-            formats: Formats::Both,
+            formats: BOTH,
             length: 0x2000,
             contents: &[
                 Entry::Ccw(0x100, READ_BACKWARD, 0x04, 2, 0x200),

@@ -1,5 +1,6 @@
-use super::{READ, TIC, WRITE};
-use crate::row::{At, Entry, Expected, Formats, Row, Section};
+use super::{BOTH, ONE, READ, TIC, WRITE, ZERO};
+use crate::row::{At, Entry, Expected, Row, Section};
+use rules::pieces::Piece;
 
 pub const RULE_4: Section = Section {
     rule: 4,
@@ -7,15 +8,22 @@ pub const RULE_4: Section = Section {
     rows: &[
         Row {
             name: "code 11",
-            formats: Formats::Both,
+            formats: BOTH,
             length: 0x2000,
             contents: &[Entry::Ccw(0x100, 0x11, 0x00, 1, 0x200)],
             place: At::First(0x100),
-            expected: Expected::Accepted(0x100, 0x11, &[(0x200, 1)]),
+            expected: Expected::Accepted(
+                0x100,
+                0x11,
+                &[Piece {
+                    first: 0x200,
+                    size: 1,
+                }],
+            ),
         },
         Row {
             name: "code 10",
-            formats: Formats::Both,
+            formats: BOTH,
             length: 0x2000,
             contents: &[Entry::Ccw(0x100, 0x10, 0x00, 1, 0x200)],
             place: At::First(0x100),
@@ -23,7 +31,7 @@ pub const RULE_4: Section = Section {
         },
         Row {
             name: "code 00",
-            formats: Formats::Both,
+            formats: BOTH,
             length: 0x2000,
             contents: &[Entry::Ccw(0x100, 0x00, 0x00, 1, 0x200)],
             place: At::First(0x100),
@@ -31,7 +39,7 @@ pub const RULE_4: Section = Section {
         },
         Row {
             name: "code 00, not the first place",
-            formats: Formats::Both,
+            formats: BOTH,
             length: 0x2000,
             contents: &[Entry::Ccw(0x100, 0x00, 0x00, 1, 0x200)],
             place: At::Later(0x100),
@@ -39,15 +47,22 @@ pub const RULE_4: Section = Section {
         },
         Row {
             name: "code 00 with a write in force",
-            formats: Formats::Both,
+            formats: BOTH,
             length: 0x2000,
             contents: &[Entry::Ccw(0x100, 0x00, 0x00, 1, 0x200)],
             place: At::InForce(0x100, WRITE),
-            expected: Expected::Accepted(0x100, WRITE, &[(0x200, 1)]),
+            expected: Expected::Accepted(
+                0x100,
+                WRITE,
+                &[Piece {
+                    first: 0x200,
+                    size: 1,
+                }],
+            ),
         },
         Row {
             name: "TIC to a code 00",
-            formats: Formats::Both,
+            formats: BOTH,
             length: 0x2000,
             contents: &[
                 Entry::Ccw(0x100, 0x00, 0x00, 1, 0x200),
@@ -58,29 +73,43 @@ pub const RULE_4: Section = Section {
         },
         Row {
             name: "TIC to a code 00 with a write in force",
-            formats: Formats::Both,
+            formats: BOTH,
             length: 0x2000,
             contents: &[
                 Entry::Ccw(0x100, 0x00, 0x00, 1, 0x200),
                 Entry::Tic(0x108, 0x100),
             ],
             place: At::InForce(0x108, WRITE),
-            expected: Expected::Accepted(0x100, WRITE, &[(0x200, 1)]),
+            expected: Expected::Accepted(
+                0x100,
+                WRITE,
+                &[Piece {
+                    first: 0x200,
+                    size: 1,
+                }],
+            ),
         },
         Row {
             name: "code 18",
-            formats: Formats::Zero,
+            formats: ZERO,
             length: 0x2000,
             contents: &[
                 Entry::Ccw(0x100, READ, 0x00, 1, 0x200),
                 Entry::Ccw(0x108, 0x18, 0x00, 0, 0x100),
             ],
             place: At::Later(0x108),
-            expected: Expected::Accepted(0x100, READ, &[(0x200, 1)]),
+            expected: Expected::Accepted(
+                0x100,
+                READ,
+                &[Piece {
+                    first: 0x200,
+                    size: 1,
+                }],
+            ),
         },
         Row {
             name: "code 18",
-            formats: Formats::One,
+            formats: ONE,
             length: 0x2000,
             contents: &[
                 Entry::Ccw(0x100, READ, 0x00, 1, 0x200),
@@ -91,18 +120,25 @@ pub const RULE_4: Section = Section {
         },
         Row {
             name: "code 18 with a write in force",
-            formats: Formats::Zero,
+            formats: ZERO,
             length: 0x2000,
             contents: &[
                 Entry::Ccw(0x100, READ, 0x00, 1, 0x200),
                 Entry::Ccw(0x108, 0x18, 0x00, 0, 0x100),
             ],
             place: At::InForce(0x108, WRITE),
-            expected: Expected::Accepted(0x100, WRITE, &[(0x200, 1)]),
+            expected: Expected::Accepted(
+                0x100,
+                WRITE,
+                &[Piece {
+                    first: 0x200,
+                    size: 1,
+                }],
+            ),
         },
         Row {
             name: "code 18 with a write in force",
-            formats: Formats::One,
+            formats: ONE,
             length: 0x2000,
             contents: &[
                 Entry::Ccw(0x100, READ, 0x00, 1, 0x200),
@@ -113,7 +149,7 @@ pub const RULE_4: Section = Section {
         },
         Row {
             name: "TIC to a code 18",
-            formats: Formats::One,
+            formats: ONE,
             length: 0x2000,
             contents: &[
                 Entry::Ccw(0x100, READ, 0x00, 1, 0x200),
@@ -125,7 +161,7 @@ pub const RULE_4: Section = Section {
         },
         Row {
             name: "rule 4 before rule 3: code 18 as the first place",
-            formats: Formats::One,
+            formats: ONE,
             length: 0x2000,
             contents: &[
                 Entry::Ccw(0x100, READ, 0x00, 1, 0x200),
@@ -136,7 +172,7 @@ pub const RULE_4: Section = Section {
         },
         Row {
             name: "rule 4 before rule 5: code 00 with flag 08",
-            formats: Formats::Both,
+            formats: BOTH,
             length: 0x2000,
             contents: &[Entry::Ccw(0x100, 0x00, 0x08, 1, 0x200)],
             place: At::First(0x100),
@@ -151,39 +187,67 @@ pub const RULE_5: Section = Section {
     rows: &[
         Row {
             name: "flag 80",
-            formats: Formats::Both,
+            formats: BOTH,
             length: 0x2000,
             contents: &[Entry::Ccw(0x100, READ, 0x80, 1, 0x200)],
             place: At::First(0x100),
-            expected: Expected::Accepted(0x100, READ, &[(0x200, 1)]),
+            expected: Expected::Accepted(
+                0x100,
+                READ,
+                &[Piece {
+                    first: 0x200,
+                    size: 1,
+                }],
+            ),
         },
         Row {
             name: "flag 40",
-            formats: Formats::Both,
+            formats: BOTH,
             length: 0x2000,
             contents: &[Entry::Ccw(0x100, READ, 0x40, 1, 0x200)],
             place: At::First(0x100),
-            expected: Expected::Accepted(0x100, READ, &[(0x200, 1)]),
+            expected: Expected::Accepted(
+                0x100,
+                READ,
+                &[Piece {
+                    first: 0x200,
+                    size: 1,
+                }],
+            ),
         },
         Row {
             name: "flag 20",
-            formats: Formats::Both,
+            formats: BOTH,
             length: 0x2000,
             contents: &[Entry::Ccw(0x100, READ, 0x20, 1, 0x200)],
             place: At::First(0x100),
-            expected: Expected::Accepted(0x100, READ, &[(0x200, 1)]),
+            expected: Expected::Accepted(
+                0x100,
+                READ,
+                &[Piece {
+                    first: 0x200,
+                    size: 1,
+                }],
+            ),
         },
         Row {
             name: "flag 10",
-            formats: Formats::Both,
+            formats: BOTH,
             length: 0x2000,
             contents: &[Entry::Ccw(0x100, READ, 0x10, 1, 0x200)],
             place: At::First(0x100),
-            expected: Expected::Accepted(0x100, READ, &[(0x200, 1)]),
+            expected: Expected::Accepted(
+                0x100,
+                READ,
+                &[Piece {
+                    first: 0x200,
+                    size: 1,
+                }],
+            ),
         },
         Row {
             name: "flag 08",
-            formats: Formats::Both,
+            formats: BOTH,
             length: 0x2000,
             contents: &[Entry::Ccw(0x100, READ, 0x08, 1, 0x200)],
             place: At::First(0x100),
@@ -191,18 +255,25 @@ pub const RULE_5: Section = Section {
         },
         Row {
             name: "flag 04",
-            formats: Formats::Both,
+            formats: BOTH,
             length: 0x2000,
             contents: &[
                 Entry::Ccw(0x100, READ, 0x04, 1, 0x200),
                 Entry::Word(0x200, 0x300),
             ],
             place: At::First(0x100),
-            expected: Expected::Accepted(0x100, READ, &[(0x300, 1)]),
+            expected: Expected::Accepted(
+                0x100,
+                READ,
+                &[Piece {
+                    first: 0x300,
+                    size: 1,
+                }],
+            ),
         },
         Row {
             name: "flag 02",
-            formats: Formats::Both,
+            formats: BOTH,
             length: 0x2000,
             contents: &[Entry::Ccw(0x100, READ, 0x02, 1, 0x200)],
             place: At::First(0x100),
@@ -210,7 +281,7 @@ pub const RULE_5: Section = Section {
         },
         Row {
             name: "flag 01",
-            formats: Formats::Both,
+            formats: BOTH,
             length: 0x2000,
             contents: &[Entry::Ccw(0x100, READ, 0x01, 1, 0x200)],
             place: At::First(0x100),
@@ -218,18 +289,25 @@ pub const RULE_5: Section = Section {
         },
         Row {
             name: "flags F4, all that are accepted",
-            formats: Formats::Both,
+            formats: BOTH,
             length: 0x2000,
             contents: &[
                 Entry::Ccw(0x100, READ, 0xF4, 1, 0x200),
                 Entry::Word(0x200, 0x300),
             ],
             place: At::First(0x100),
-            expected: Expected::Accepted(0x100, READ, &[(0x300, 1)]),
+            expected: Expected::Accepted(
+                0x100,
+                READ,
+                &[Piece {
+                    first: 0x300,
+                    size: 1,
+                }],
+            ),
         },
         Row {
             name: "flags FC",
-            formats: Formats::Both,
+            formats: BOTH,
             length: 0x2000,
             contents: &[
                 Entry::Ccw(0x100, READ, 0xFC, 1, 0x200),
@@ -240,7 +318,7 @@ pub const RULE_5: Section = Section {
         },
         Row {
             name: "flag 08 with a read in force",
-            formats: Formats::Both,
+            formats: BOTH,
             length: 0x2000,
             contents: &[Entry::Ccw(0x100, READ, 0x08, 1, 0x200)],
             place: At::InForce(0x100, READ),
@@ -248,7 +326,7 @@ pub const RULE_5: Section = Section {
         },
         Row {
             name: "TIC to a CCW with flag 01",
-            formats: Formats::Both,
+            formats: BOTH,
             length: 0x2000,
             contents: &[
                 Entry::Ccw(0x100, READ, 0x01, 1, 0x200),
@@ -259,29 +337,43 @@ pub const RULE_5: Section = Section {
         },
         Row {
             name: "code 58, flags FF and count 65535",
-            formats: Formats::Zero,
+            formats: ZERO,
             length: 0x2000,
             contents: &[
                 Entry::Ccw(0x100, READ, 0x00, 1, 0x200),
                 Entry::Ccw(0x108, 0x58, 0xFF, 65535, 0x100),
             ],
             place: At::Later(0x108),
-            expected: Expected::Accepted(0x100, READ, &[(0x200, 1)]),
+            expected: Expected::Accepted(
+                0x100,
+                READ,
+                &[Piece {
+                    first: 0x200,
+                    size: 1,
+                }],
+            ),
         },
         Row {
             name: "TIC with flags 00 and count 0",
-            formats: Formats::One,
+            formats: ONE,
             length: 0x2000,
             contents: &[
                 Entry::Ccw(0x100, READ, 0x00, 1, 0x200),
                 Entry::Tic(0x108, 0x100),
             ],
             place: At::Later(0x108),
-            expected: Expected::Accepted(0x100, READ, &[(0x200, 1)]),
+            expected: Expected::Accepted(
+                0x100,
+                READ,
+                &[Piece {
+                    first: 0x200,
+                    size: 1,
+                }],
+            ),
         },
         Row {
             name: "TIC with flag 80",
-            formats: Formats::One,
+            formats: ONE,
             length: 0x2000,
             contents: &[
                 Entry::Ccw(0x100, READ, 0x00, 1, 0x200),
@@ -292,7 +384,7 @@ pub const RULE_5: Section = Section {
         },
         Row {
             name: "TIC with flag 20",
-            formats: Formats::One,
+            formats: ONE,
             length: 0x2000,
             contents: &[
                 Entry::Ccw(0x100, READ, 0x00, 1, 0x200),
@@ -303,7 +395,7 @@ pub const RULE_5: Section = Section {
         },
         Row {
             name: "TIC with flag 01",
-            formats: Formats::One,
+            formats: ONE,
             length: 0x2000,
             contents: &[
                 Entry::Ccw(0x100, READ, 0x00, 1, 0x200),
@@ -314,7 +406,7 @@ pub const RULE_5: Section = Section {
         },
         Row {
             name: "TIC with count 1",
-            formats: Formats::One,
+            formats: ONE,
             length: 0x2000,
             contents: &[
                 Entry::Ccw(0x100, READ, 0x00, 1, 0x200),
@@ -325,7 +417,7 @@ pub const RULE_5: Section = Section {
         },
         Row {
             name: "rule 5 before rule 6: flag 08 and count 0",
-            formats: Formats::Both,
+            formats: BOTH,
             length: 0x2000,
             contents: &[Entry::Ccw(0x100, READ, 0x08, 0, 0x200)],
             place: At::First(0x100),
@@ -333,7 +425,7 @@ pub const RULE_5: Section = Section {
         },
         Row {
             name: "rule 5 before rule 1: TIC with a flag to 104",
-            formats: Formats::One,
+            formats: ONE,
             length: 0x2000,
             contents: &[Entry::Ccw(0x108, TIC, 0x20, 0, 0x104)],
             place: At::Later(0x108),
@@ -348,15 +440,22 @@ pub const RULE_6: Section = Section {
     rows: &[
         Row {
             name: "count 1",
-            formats: Formats::Both,
+            formats: BOTH,
             length: 0x2000,
             contents: &[Entry::Ccw(0x100, READ, 0x00, 1, 0x200)],
             place: At::First(0x100),
-            expected: Expected::Accepted(0x100, READ, &[(0x200, 1)]),
+            expected: Expected::Accepted(
+                0x100,
+                READ,
+                &[Piece {
+                    first: 0x200,
+                    size: 1,
+                }],
+            ),
         },
         Row {
             name: "count 0",
-            formats: Formats::Both,
+            formats: BOTH,
             length: 0x2000,
             contents: &[Entry::Ccw(0x100, READ, 0x00, 0, 0x200)],
             place: At::First(0x100),
@@ -364,15 +463,22 @@ pub const RULE_6: Section = Section {
         },
         Row {
             name: "count 256",
-            formats: Formats::Both,
+            formats: BOTH,
             length: 0x2000,
             contents: &[Entry::Ccw(0x100, READ, 0x00, 256, 0x200)],
             place: At::First(0x100),
-            expected: Expected::Accepted(0x100, READ, &[(0x200, 256)]),
+            expected: Expected::Accepted(
+                0x100,
+                READ,
+                &[Piece {
+                    first: 0x200,
+                    size: 256,
+                }],
+            ),
         },
         Row {
             name: "count 0 with a read in force",
-            formats: Formats::Both,
+            formats: BOTH,
             length: 0x2000,
             contents: &[Entry::Ccw(0x100, READ, 0x00, 0, 0x200)],
             place: At::InForce(0x100, READ),
@@ -380,7 +486,7 @@ pub const RULE_6: Section = Section {
         },
         Row {
             name: "TIC to a CCW with count 0",
-            formats: Formats::Both,
+            formats: BOTH,
             length: 0x2000,
             contents: &[
                 Entry::Ccw(0x100, READ, 0x00, 0, 0x200),
@@ -391,7 +497,7 @@ pub const RULE_6: Section = Section {
         },
         Row {
             name: "rule 6 before rule 7: count 0 and a list at 202",
-            formats: Formats::Both,
+            formats: BOTH,
             length: 0x2000,
             contents: &[Entry::Ccw(0x100, READ, 0x04, 0, 0x202)],
             place: At::First(0x100),

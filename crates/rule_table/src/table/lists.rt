@@ -1,5 +1,6 @@
-use super::{READ, READ_BACKWARD};
-use crate::row::{At, Entry, Expected, Formats, Row, Section};
+use super::{BOTH, ONE, READ, READ_BACKWARD, ZERO};
+use crate::row::{At, Entry, Expected, Row, Section};
+use rules::pieces::Piece;
 
 pub const RULE_7: Section = Section {
     rule: 7,
@@ -7,18 +8,25 @@ pub const RULE_7: Section = Section {
     rows: &[
         Row {
             name: "list at 200",
-            formats: Formats::Both,
+            formats: BOTH,
             length: 0x2000,
             contents: &[
                 Entry::Ccw(0x100, READ, 0x04, 1, 0x200),
                 Entry::Word(0x200, 0x300),
             ],
             place: At::First(0x100),
-            expected: Expected::Accepted(0x100, READ, &[(0x300, 1)]),
+            expected: Expected::Accepted(
+                0x100,
+                READ,
+                &[Piece {
+                    first: 0x300,
+                    size: 1,
+                }],
+            ),
         },
         Row {
             name: "list at 201",
-            formats: Formats::Both,
+            formats: BOTH,
             length: 0x2000,
             contents: &[
                 Entry::Ccw(0x100, READ, 0x04, 1, 0x201),
@@ -29,7 +37,7 @@ pub const RULE_7: Section = Section {
         },
         Row {
             name: "list at 202",
-            formats: Formats::Both,
+            formats: BOTH,
             length: 0x2000,
             contents: &[
                 Entry::Ccw(0x100, READ, 0x04, 1, 0x202),
@@ -40,7 +48,7 @@ pub const RULE_7: Section = Section {
         },
         Row {
             name: "list at 203",
-            formats: Formats::Both,
+            formats: BOTH,
             length: 0x2000,
             contents: &[
                 Entry::Ccw(0x100, READ, 0x04, 1, 0x203),
@@ -51,26 +59,40 @@ pub const RULE_7: Section = Section {
         },
         Row {
             name: "list at 204",
-            formats: Formats::Both,
+            formats: BOTH,
             length: 0x2000,
             contents: &[
                 Entry::Ccw(0x100, READ, 0x04, 1, 0x204),
                 Entry::Word(0x204, 0x300),
             ],
             place: At::First(0x100),
-            expected: Expected::Accepted(0x100, READ, &[(0x300, 1)]),
+            expected: Expected::Accepted(
+                0x100,
+                READ,
+                &[Piece {
+                    first: 0x300,
+                    size: 1,
+                }],
+            ),
         },
         Row {
             name: "address 202 without a list",
-            formats: Formats::Both,
+            formats: BOTH,
             length: 0x2000,
             contents: &[Entry::Ccw(0x100, READ, 0x00, 1, 0x202)],
             place: At::First(0x100),
-            expected: Expected::Accepted(0x100, READ, &[(0x202, 1)]),
+            expected: Expected::Accepted(
+                0x100,
+                READ,
+                &[Piece {
+                    first: 0x202,
+                    size: 1,
+                }],
+            ),
         },
         Row {
             name: "TIC to a CCW with a list at 202",
-            formats: Formats::Both,
+            formats: BOTH,
             length: 0x2000,
             contents: &[
                 Entry::Ccw(0x100, READ, 0x04, 1, 0x202),
@@ -82,7 +104,7 @@ pub const RULE_7: Section = Section {
         },
         Row {
             name: "rule 7 before rule 8: list at 2002, behind the end",
-            formats: Formats::Both,
+            formats: BOTH,
             length: 0x2000,
             contents: &[Entry::Ccw(0x100, READ, 0x04, 1, 0x2002)],
             place: At::First(0x100),
@@ -97,18 +119,25 @@ pub const RULE_8: Section = Section {
     rows: &[
         Row {
             name: "list in the last 4 bytes of storage",
-            formats: Formats::Both,
+            formats: BOTH,
             length: 0x2000,
             contents: &[
                 Entry::Ccw(0x100, READ, 0x04, 1, 0x1FFC),
                 Entry::Word(0x1FFC, 0x300),
             ],
             place: At::First(0x100),
-            expected: Expected::Accepted(0x100, READ, &[(0x300, 1)]),
+            expected: Expected::Accepted(
+                0x100,
+                READ,
+                &[Piece {
+                    first: 0x300,
+                    size: 1,
+                }],
+            ),
         },
         Row {
             name: "storage 1 byte shorter",
-            formats: Formats::Both,
+            formats: BOTH,
             length: 0x1FFF,
             contents: &[
                 Entry::Ccw(0x100, READ, 0x04, 1, 0x1FFC),
@@ -119,7 +148,7 @@ pub const RULE_8: Section = Section {
         },
         Row {
             name: "list 4 bytes further",
-            formats: Formats::Both,
+            formats: BOTH,
             length: 0x2000,
             contents: &[Entry::Ccw(0x100, READ, 0x04, 1, 0x2000)],
             place: At::First(0x100),
@@ -127,7 +156,7 @@ pub const RULE_8: Section = Section {
         },
         Row {
             name: "second word in the last 4 bytes of storage",
-            formats: Formats::Both,
+            formats: BOTH,
             length: 0x2000,
             contents: &[
                 Entry::Ccw(0x100, READ, 0x04, 4, 0x1FF8),
@@ -135,11 +164,24 @@ pub const RULE_8: Section = Section {
                 Entry::Word(0x1FFC, 0x1000),
             ],
             place: At::First(0x100),
-            expected: Expected::Accepted(0x100, READ, &[(0x7FE, 2), (0x1000, 2)]),
+            expected: Expected::Accepted(
+                0x100,
+                READ,
+                &[
+                    Piece {
+                        first: 0x7FE,
+                        size: 2,
+                    },
+                    Piece {
+                        first: 0x1000,
+                        size: 2,
+                    },
+                ],
+            ),
         },
         Row {
             name: "second word behind the end",
-            formats: Formats::Both,
+            formats: BOTH,
             length: 0x2000,
             contents: &[
                 Entry::Ccw(0x100, READ, 0x04, 4, 0x1FFC),
@@ -150,18 +192,25 @@ pub const RULE_8: Section = Section {
         },
         Row {
             name: "second word behind the end, and not needed",
-            formats: Formats::Both,
+            formats: BOTH,
             length: 0x2000,
             contents: &[
                 Entry::Ccw(0x100, READ, 0x04, 2, 0x1FFC),
                 Entry::Word(0x1FFC, 0x7FE),
             ],
             place: At::First(0x100),
-            expected: Expected::Accepted(0x100, READ, &[(0x7FE, 2)]),
+            expected: Expected::Accepted(
+                0x100,
+                READ,
+                &[Piece {
+                    first: 0x7FE,
+                    size: 2,
+                }],
+            ),
         },
         Row {
             name: "TIC to a CCW with a list behind the end",
-            formats: Formats::Both,
+            formats: BOTH,
             length: 0x2000,
             contents: &[
                 Entry::Ccw(0x100, READ, 0x04, 1, 0x2000),
@@ -172,7 +221,7 @@ pub const RULE_8: Section = Section {
         },
         Row {
             name: "list at the highest multiple of 4",
-            formats: Formats::Zero,
+            formats: ZERO,
             length: 0x2000,
             contents: &[Entry::Ccw(0x100, READ, 0x04, 1, 0xFFFFFC)],
             place: At::First(0x100),
@@ -180,7 +229,7 @@ pub const RULE_8: Section = Section {
         },
         Row {
             name: "list at the highest multiple of 4",
-            formats: Formats::One,
+            formats: ONE,
             length: 0x2000,
             contents: &[Entry::Ccw(0x100, READ, 0x04, 1, 0xFFFFFFFC)],
             place: At::First(0x100),
@@ -195,7 +244,7 @@ pub const RULE_9: Section = Section {
     rows: &[
         Row {
             name: "words 7FE and 1000",
-            formats: Formats::Both,
+            formats: BOTH,
             length: 0x2000,
             contents: &[
                 Entry::Ccw(0x100, READ, 0x04, 4, 0x200),
@@ -203,11 +252,24 @@ pub const RULE_9: Section = Section {
                 Entry::Word(0x204, 0x1000),
             ],
             place: At::First(0x100),
-            expected: Expected::Accepted(0x100, READ, &[(0x7FE, 2), (0x1000, 2)]),
+            expected: Expected::Accepted(
+                0x100,
+                READ,
+                &[
+                    Piece {
+                        first: 0x7FE,
+                        size: 2,
+                    },
+                    Piece {
+                        first: 0x1000,
+                        size: 2,
+                    },
+                ],
+            ),
         },
         Row {
             name: "words 7FE and 1001",
-            formats: Formats::Both,
+            formats: BOTH,
             length: 0x2000,
             contents: &[
                 Entry::Ccw(0x100, READ, 0x04, 4, 0x200),
@@ -219,7 +281,7 @@ pub const RULE_9: Section = Section {
         },
         Row {
             name: "words 7FE and FFF",
-            formats: Formats::Both,
+            formats: BOTH,
             length: 0x2000,
             contents: &[
                 Entry::Ccw(0x100, READ, 0x04, 4, 0x200),
@@ -231,7 +293,7 @@ pub const RULE_9: Section = Section {
         },
         Row {
             name: "words 7FE and 1001, the second not needed",
-            formats: Formats::Both,
+            formats: BOTH,
             length: 0x2000,
             contents: &[
                 Entry::Ccw(0x100, READ, 0x04, 2, 0x200),
@@ -239,11 +301,18 @@ pub const RULE_9: Section = Section {
                 Entry::Word(0x204, 0x1001),
             ],
             place: At::First(0x100),
-            expected: Expected::Accepted(0x100, READ, &[(0x7FE, 2)]),
+            expected: Expected::Accepted(
+                0x100,
+                READ,
+                &[Piece {
+                    first: 0x7FE,
+                    size: 2,
+                }],
+            ),
         },
         Row {
             name: "words 7FE and 000, one block twice",
-            formats: Formats::Both,
+            formats: BOTH,
             length: 0x2000,
             contents: &[
                 Entry::Ccw(0x100, READ, 0x04, 4, 0x200),
@@ -251,11 +320,24 @@ pub const RULE_9: Section = Section {
                 Entry::Word(0x204, 0x00),
             ],
             place: At::First(0x100),
-            expected: Expected::Accepted(0x100, READ, &[(0x7FE, 2), (0x00, 2)]),
+            expected: Expected::Accepted(
+                0x100,
+                READ,
+                &[
+                    Piece {
+                        first: 0x7FE,
+                        size: 2,
+                    },
+                    Piece {
+                        first: 0x00,
+                        size: 2,
+                    },
+                ],
+            ),
         },
         Row {
             name: "words 7FE, 1000 and 800",
-            formats: Formats::Both,
+            formats: BOTH,
             length: 0x2000,
             contents: &[
                 Entry::Ccw(0x100, READ, 0x04, 2051, 0x200),
@@ -264,11 +346,28 @@ pub const RULE_9: Section = Section {
                 Entry::Word(0x208, 0x800),
             ],
             place: At::First(0x100),
-            expected: Expected::Accepted(0x100, READ, &[(0x7FE, 2), (0x1000, 2048), (0x800, 1)]),
+            expected: Expected::Accepted(
+                0x100,
+                READ,
+                &[
+                    Piece {
+                        first: 0x7FE,
+                        size: 2,
+                    },
+                    Piece {
+                        first: 0x1000,
+                        size: 2048,
+                    },
+                    Piece {
+                        first: 0x800,
+                        size: 1,
+                    },
+                ],
+            ),
         },
         Row {
             name: "words 7FE, 1000 and 801",
-            formats: Formats::Both,
+            formats: BOTH,
             length: 0x2000,
             contents: &[
                 Entry::Ccw(0x100, READ, 0x04, 2051, 0x200),
@@ -281,7 +380,7 @@ pub const RULE_9: Section = Section {
         },
         Row {
             name: "backward, words 1001 and 17FF",
-            formats: Formats::Both,
+            formats: BOTH,
             length: 0x2000,
             contents: &[
                 Entry::Ccw(0x100, READ_BACKWARD, 0x04, 4, 0x200),
@@ -289,11 +388,24 @@ pub const RULE_9: Section = Section {
                 Entry::Word(0x204, 0x17FF),
             ],
             place: At::First(0x100),
-            expected: Expected::Accepted(0x100, READ_BACKWARD, &[(0x1001, 2), (0x17FF, 2)]),
+            expected: Expected::Accepted(
+                0x100,
+                READ_BACKWARD,
+                &[
+                    Piece {
+                        first: 0x1001,
+                        size: 2,
+                    },
+                    Piece {
+                        first: 0x17FF,
+                        size: 2,
+                    },
+                ],
+            ),
         },
         Row {
             name: "backward, words 1001 and 17FE",
-            formats: Formats::Both,
+            formats: BOTH,
             length: 0x2000,
             contents: &[
                 Entry::Ccw(0x100, READ_BACKWARD, 0x04, 4, 0x200),
@@ -305,7 +417,7 @@ pub const RULE_9: Section = Section {
         },
         Row {
             name: "backward, words 1001 and 1800",
-            formats: Formats::Both,
+            formats: BOTH,
             length: 0x2000,
             contents: &[
                 Entry::Ccw(0x100, READ_BACKWARD, 0x04, 4, 0x200),
@@ -317,7 +429,7 @@ pub const RULE_9: Section = Section {
         },
         Row {
             name: "backward in force, words 1001 and 17FF",
-            formats: Formats::Both,
+            formats: BOTH,
             length: 0x2000,
             contents: &[
                 Entry::Ccw(0x100, READ, 0x04, 4, 0x200),
@@ -325,11 +437,24 @@ pub const RULE_9: Section = Section {
                 Entry::Word(0x204, 0x17FF),
             ],
             place: At::InForce(0x100, READ_BACKWARD),
-            expected: Expected::Accepted(0x100, READ_BACKWARD, &[(0x1001, 2), (0x17FF, 2)]),
+            expected: Expected::Accepted(
+                0x100,
+                READ_BACKWARD,
+                &[
+                    Piece {
+                        first: 0x1001,
+                        size: 2,
+                    },
+                    Piece {
+                        first: 0x17FF,
+                        size: 2,
+                    },
+                ],
+            ),
         },
         Row {
             name: "backward in force, words 1001 and 1000",
-            formats: Formats::Both,
+            formats: BOTH,
             length: 0x2000,
             contents: &[
                 Entry::Ccw(0x100, READ, 0x04, 4, 0x200),
@@ -341,7 +466,7 @@ pub const RULE_9: Section = Section {
         },
         Row {
             name: "rule 9 before rule 10: words 7FE and 2001",
-            formats: Formats::Both,
+            formats: BOTH,
             length: 0x2000,
             contents: &[
                 Entry::Ccw(0x100, READ, 0x04, 4, 0x200),
@@ -353,7 +478,7 @@ pub const RULE_9: Section = Section {
         },
         Row {
             name: "the first word before the second: words 27FE and 1001",
-            formats: Formats::Both,
+            formats: BOTH,
             length: 0x2000,
             contents: &[
                 Entry::Ccw(0x100, READ, 0x04, 4, 0x200),

@@ -1,5 +1,6 @@
-use super::{READ, TIC, WRITE};
-use crate::row::{At, Entry, Expected, Formats, Row, Section};
+use super::{BOTH, ONE, READ, TIC, WRITE, ZERO};
+use crate::row::{At, Entry, Expected, Row, Section};
+use rules::pieces::Piece;
 
 pub const RULE_1: Section = Section {
     rule: 1,
@@ -7,15 +8,22 @@ pub const RULE_1: Section = Section {
     rows: &[
         Row {
             name: "start at 100",
-            formats: Formats::Both,
+            formats: BOTH,
             length: 0x2000,
             contents: &[Entry::Ccw(0x100, READ, 0x00, 1, 0x200)],
             place: At::First(0x100),
-            expected: Expected::Accepted(0x100, READ, &[(0x200, 1)]),
+            expected: Expected::Accepted(
+                0x100,
+                READ,
+                &[Piece {
+                    first: 0x200,
+                    size: 1,
+                }],
+            ),
         },
         Row {
             name: "start at 101",
-            formats: Formats::Both,
+            formats: BOTH,
             length: 0x2000,
             contents: &[Entry::Ccw(0x101, READ, 0x00, 1, 0x200)],
             place: At::First(0x101),
@@ -23,7 +31,7 @@ pub const RULE_1: Section = Section {
         },
         Row {
             name: "start at 104",
-            formats: Formats::Both,
+            formats: BOTH,
             length: 0x2000,
             contents: &[Entry::Ccw(0x104, READ, 0x00, 1, 0x200)],
             place: At::First(0x104),
@@ -31,18 +39,25 @@ pub const RULE_1: Section = Section {
         },
         Row {
             name: "TIC to 100",
-            formats: Formats::Both,
+            formats: BOTH,
             length: 0x2000,
             contents: &[
                 Entry::Ccw(0x100, READ, 0x00, 1, 0x200),
                 Entry::Tic(0x108, 0x100),
             ],
             place: At::Later(0x108),
-            expected: Expected::Accepted(0x100, READ, &[(0x200, 1)]),
+            expected: Expected::Accepted(
+                0x100,
+                READ,
+                &[Piece {
+                    first: 0x200,
+                    size: 1,
+                }],
+            ),
         },
         Row {
             name: "TIC to 104",
-            formats: Formats::Both,
+            formats: BOTH,
             length: 0x2000,
             contents: &[
                 Entry::Ccw(0x104, READ, 0x00, 1, 0x200),
@@ -53,7 +68,7 @@ pub const RULE_1: Section = Section {
         },
         Row {
             name: "rule 1 before rule 2: start at 2004, behind the end",
-            formats: Formats::Both,
+            formats: BOTH,
             length: 0x2000,
             contents: &[],
             place: At::First(0x2004),
@@ -68,15 +83,22 @@ pub const RULE_2: Section = Section {
     rows: &[
         Row {
             name: "in the last 8 bytes of storage",
-            formats: Formats::Both,
+            formats: BOTH,
             length: 0x200,
             contents: &[Entry::Ccw(0x1F8, READ, 0x00, 1, 0x100)],
             place: At::First(0x1F8),
-            expected: Expected::Accepted(0x1F8, READ, &[(0x100, 1)]),
+            expected: Expected::Accepted(
+                0x1F8,
+                READ,
+                &[Piece {
+                    first: 0x100,
+                    size: 1,
+                }],
+            ),
         },
         Row {
             name: "storage 1 byte shorter",
-            formats: Formats::Both,
+            formats: BOTH,
             length: 0x1FF,
             contents: &[Entry::Ccw(0x1F8, READ, 0x00, 1, 0x100)],
             place: At::First(0x1F8),
@@ -84,7 +106,7 @@ pub const RULE_2: Section = Section {
         },
         Row {
             name: "at the end of storage",
-            formats: Formats::Both,
+            formats: BOTH,
             length: 0x200,
             contents: &[],
             place: At::First(0x200),
@@ -92,18 +114,25 @@ pub const RULE_2: Section = Section {
         },
         Row {
             name: "TIC to the last 8 bytes of storage",
-            formats: Formats::Both,
+            formats: BOTH,
             length: 0x200,
             contents: &[
                 Entry::Tic(0x108, 0x1F8),
                 Entry::Ccw(0x1F8, READ, 0x00, 1, 0x100),
             ],
             place: At::Later(0x108),
-            expected: Expected::Accepted(0x1F8, READ, &[(0x100, 1)]),
+            expected: Expected::Accepted(
+                0x1F8,
+                READ,
+                &[Piece {
+                    first: 0x100,
+                    size: 1,
+                }],
+            ),
         },
         Row {
             name: "the same TIC, storage 1 byte shorter",
-            formats: Formats::Both,
+            formats: BOTH,
             length: 0x1FF,
             contents: &[
                 Entry::Tic(0x108, 0x1F8),
@@ -114,15 +143,22 @@ pub const RULE_2: Section = Section {
         },
         Row {
             name: "a storage of 8 bytes",
-            formats: Formats::Both,
+            formats: BOTH,
             length: 0x08,
             contents: &[Entry::Ccw(0x00, READ, 0x00, 1, 0x00)],
             place: At::First(0x00),
-            expected: Expected::Accepted(0x00, READ, &[(0x00, 1)]),
+            expected: Expected::Accepted(
+                0x00,
+                READ,
+                &[Piece {
+                    first: 0x00,
+                    size: 1,
+                }],
+            ),
         },
         Row {
             name: "a storage of 7 bytes",
-            formats: Formats::Both,
+            formats: BOTH,
             length: 0x07,
             contents: &[Entry::Ccw(0x00, READ, 0x00, 1, 0x00)],
             place: At::First(0x00),
@@ -130,7 +166,7 @@ pub const RULE_2: Section = Section {
         },
         Row {
             name: "an empty storage",
-            formats: Formats::Both,
+            formats: BOTH,
             length: 0x00,
             contents: &[],
             place: At::First(0x00),
@@ -138,7 +174,7 @@ pub const RULE_2: Section = Section {
         },
         Row {
             name: "start at the highest multiple of 8",
-            formats: Formats::Both,
+            formats: BOTH,
             length: 0x2000,
             contents: &[],
             place: At::First(0xFFFFFFF8),
@@ -146,7 +182,7 @@ pub const RULE_2: Section = Section {
         },
         Row {
             name: "TIC to the highest multiple of 8",
-            formats: Formats::Zero,
+            formats: ZERO,
             length: 0x2000,
             contents: &[Entry::Tic(0x108, 0xFFFFF8)],
             place: At::Later(0x108),
@@ -154,7 +190,7 @@ pub const RULE_2: Section = Section {
         },
         Row {
             name: "TIC to the highest multiple of 8",
-            formats: Formats::One,
+            formats: ONE,
             length: 0x2000,
             contents: &[Entry::Tic(0x108, 0xFFFFFFF8)],
             place: At::Later(0x108),
@@ -169,18 +205,25 @@ pub const RULE_3: Section = Section {
     rows: &[
         Row {
             name: "TIC, not the first place",
-            formats: Formats::Both,
+            formats: BOTH,
             length: 0x2000,
             contents: &[
                 Entry::Ccw(0x100, READ, 0x00, 1, 0x200),
                 Entry::Tic(0x108, 0x100),
             ],
             place: At::Later(0x108),
-            expected: Expected::Accepted(0x100, READ, &[(0x200, 1)]),
+            expected: Expected::Accepted(
+                0x100,
+                READ,
+                &[Piece {
+                    first: 0x200,
+                    size: 1,
+                }],
+            ),
         },
         Row {
             name: "the same TIC as the first place",
-            formats: Formats::Both,
+            formats: BOTH,
             length: 0x2000,
             contents: &[
                 Entry::Ccw(0x100, READ, 0x00, 1, 0x200),
@@ -191,18 +234,25 @@ pub const RULE_3: Section = Section {
         },
         Row {
             name: "TIC inside a data chain",
-            formats: Formats::Both,
+            formats: BOTH,
             length: 0x2000,
             contents: &[
                 Entry::Ccw(0x100, WRITE, 0x00, 1, 0x200),
                 Entry::Tic(0x108, 0x100),
             ],
             place: At::InForce(0x108, READ),
-            expected: Expected::Accepted(0x100, READ, &[(0x200, 1)]),
+            expected: Expected::Accepted(
+                0x100,
+                READ,
+                &[Piece {
+                    first: 0x200,
+                    size: 1,
+                }],
+            ),
         },
         Row {
             name: "TIC to a TIC",
-            formats: Formats::Both,
+            formats: BOTH,
             length: 0x2000,
             contents: &[
                 Entry::Ccw(0x100, READ, 0x00, 1, 0x200),
@@ -214,7 +264,7 @@ pub const RULE_3: Section = Section {
         },
         Row {
             name: "TIC to a TIC inside a data chain",
-            formats: Formats::Both,
+            formats: BOTH,
             length: 0x2000,
             contents: &[
                 Entry::Ccw(0x100, READ, 0x00, 1, 0x200),
@@ -226,7 +276,7 @@ pub const RULE_3: Section = Section {
         },
         Row {
             name: "TIC to itself",
-            formats: Formats::Both,
+            formats: BOTH,
             length: 0x2000,
             contents: &[Entry::Tic(0x108, 0x108)],
             place: At::Later(0x108),
@@ -234,7 +284,7 @@ pub const RULE_3: Section = Section {
         },
         Row {
             name: "TIC to a TIC whose own target is no multiple of 8",
-            formats: Formats::Both,
+            formats: BOTH,
             length: 0x2000,
             contents: &[Entry::Tic(0x108, 0x110), Entry::Tic(0x110, 0x104)],
             place: At::Later(0x108),
@@ -242,7 +292,7 @@ pub const RULE_3: Section = Section {
         },
         Row {
             name: "code 58, flags FF and count 65535, first place",
-            formats: Formats::Zero,
+            formats: ZERO,
             length: 0x2000,
             contents: &[Entry::Ccw(0x100, 0x58, 0xFF, 65535, 0x200)],
             place: At::First(0x100),
@@ -250,7 +300,7 @@ pub const RULE_3: Section = Section {
         },
         Row {
             name: "TIC to a code 18",
-            formats: Formats::Zero,
+            formats: ZERO,
             length: 0x2000,
             contents: &[
                 Entry::Ccw(0x100, READ, 0x00, 1, 0x200),
@@ -262,7 +312,7 @@ pub const RULE_3: Section = Section {
         },
         Row {
             name: "rule 3 before rule 5: TIC with a flag, first place",
-            formats: Formats::One,
+            formats: ONE,
             length: 0x2000,
             contents: &[Entry::Ccw(0x100, TIC, 0x20, 0, 0x100)],
             place: At::First(0x100),
@@ -270,7 +320,7 @@ pub const RULE_3: Section = Section {
         },
         Row {
             name: "rule 3 before rule 5: TIC to a TIC with a flag",
-            formats: Formats::One,
+            formats: ONE,
             length: 0x2000,
             contents: &[
                 Entry::Tic(0x108, 0x110),

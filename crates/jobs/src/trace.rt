@@ -80,7 +80,7 @@ fn show_ccw(rt: &HostRuntime, place: Place, storage: &[u8], taken: &Taken) -> io
 
 fn show_area(rt: &HostRuntime, taken: &Taken) -> io::Result<()> {
     print!(rt; "  area    ")?;
-    for (index, piece) in taken.pieces.items[..taken.pieces.len].iter().enumerate() {
+    for (index, piece) in taken.pieces.iter().enumerate() {
         if index > 0 {
             print!(rt; ", ")?;
         }

@@ -3,7 +3,7 @@ use rules::pieces::Piece;
 use rules::place::Place;
 
 // What is written into storage, with the address where it is written.
-#[derive(Clone, Copy)]
+#[derive(Clone, Copy, Debug)]
 pub enum Entry {
     // A CCW: its code, flags, count and address.
     Ccw(u32, u8, u8, u16, u32),
@@ -14,7 +14,7 @@ pub enum Entry {
 }
 
 // The place that is taken up.
-#[derive(Clone, Copy)]
+#[derive(Clone, Copy, Debug)]
 pub enum At {
     // The first place of a program.
     First(u32),
@@ -24,9 +24,9 @@ pub enum At {
     InForce(u32, u8),
 }
 
-impl At {
-    pub(crate) fn place(self) -> Place {
-        match self {
+impl From<At> for Place {
+    fn from(at: At) -> Place {
+        match at {
             At::First(address) => Place {
                 address,
                 first: true,
@@ -47,7 +47,7 @@ impl At {
 }
 
 // What taking up the place must answer.
-#[derive(Clone, Copy)]
+#[derive(Clone, Copy, Debug)]
 pub enum Expected {
     // The CCW's address, the code in force with it, and the pieces of its area.
     Accepted(u32, u8, &'static [Piece]),
@@ -56,7 +56,7 @@ pub enum Expected {
 }
 
 // A place in a storage of so many bytes, zeros but for the contents.
-#[derive(Clone, Copy)]
+#[derive(Clone, Copy, Debug)]
 pub struct Row {
     pub name: &'static str,
     pub formats: &'static [Format],
@@ -67,7 +67,7 @@ pub struct Row {
 }
 
 // The rows of one rule.
-#[derive(Clone, Copy)]
+#[derive(Clone, Copy, Debug)]
 pub struct Section {
     pub rule: u8,
     pub title: &'static str,

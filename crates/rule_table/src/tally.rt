@@ -1,7 +1,8 @@
-use super::answer::Got;
 use super::row::{Row, Section};
 use super::storage::build;
 use format::ccw::Format;
+use rules::place::Place;
+use rules::printing::Answer;
 use rules::storage::Plain;
 use rules::taking_up::take_up;
 
@@ -17,14 +18,14 @@ impl Tally {
     // Checks one row in one format, and prints a line.
     fn check_row(&mut self, rt: &HostRuntime, format: Format, row: &Row) -> anyhow::Result<()> {
         let storage = build(rt.alloc(), format, row)?;
-        let taken = take_up(&Plain { storage: &storage }, format, row.place.place());
+        let taken = take_up(&Plain { storage: &storage }, format, Place::from(row.place));
         self.count(format);
         print!(rt; "  format {format}  {:<54} {}: ", row.name, row.expected)?;
         if row.expected.is(&taken) {
             println!(rt; "as expected")?;
         } else {
             self.wrong = self.wrong.saturating_add(1);
-            println!(rt; "WRONG: got {}", Got(&taken))?;
+            println!(rt; "WRONG: got {}", Answer::<8>(&taken))?;
         }
         Ok(())
     }

@@ -96,7 +96,7 @@ impl<'a, S: Storage> Area<'a, S> {
         refuse_if(self.is_outside(first, size), refusal, self.ccw.address)
     }
 
-    // A direct area, cut where blocks end.
+    // A direct area, cut where blocks end. No `for`: the size of each piece says where the next begins.
     fn cut(&self) -> Pieces
         requires { self.now.backward ≡ true → self.now.ccw.value.count ≤ self.now.ccw.value.address + 1 }
         ensures { listed result ≡ cut self.now.backward self.now.ccw.value.count self.now.ccw.value.address self.now.ccw.value.count }
@@ -138,7 +138,7 @@ impl<'a, S: Storage> Area<'a, S> {
         self.served_piece(later, read_word(self.storage, at), left)
     }
 
-    // Rules 8 to 10: an area by a list of indirect words.
+    // Rules 8 to 10: an area by a list of indirect words. No `for`: what a word serves says whether another is read.
     fn by_words(&self) -> Result<Pieces, Broken>
         ensures { answered listed result ≡ by_words self.now.backward (reach (S.bytes self.now.storage.now)) (reader (S.bytes self.now.storage.now)) self.now.ccw.address
             self.now.ccw.value.count false self.now.ccw.value.address self.now.ccw.value.count }

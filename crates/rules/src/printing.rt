@@ -1,44 +1,38 @@
 use super::pieces::Piece;
 use super::place::{Broken, Taken};
+use std::error::Error;
 use std::fmt;
 
-// An area as it is printed: its pieces, their addresses with so many hexadecimal digits.
-#[derive(Clone, Copy, Debug)]
-pub struct Area<'a, const DIGITS: usize>(pub &'a [Piece]);
-
-impl<'a, const DIGITS: usize> fmt::Display for Area<'a, DIGITS> {
+// Addresses are printed in hexadecimal, in the width that is asked for: `{taken:08}`, `{broken:05}`.
+// The implementations are of `Display`, since a format string takes its `X` for numbers alone.
+impl fmt::Display for Piece {
     fn fmt<W: fmt::Write>(&self, f: &mut fmt::Formatter<W>) -> fmt::Result {
-        f.write_str("area")?;
-        for piece in self.0 {
-            let first = piece.first;
-            write!(f, " ({first:0DIGITS$X}, {})", piece.size)?;
+        f.write_str("(")?;
+        fmt::UpperHex::fmt(&self.first, f)?;
+        write!(f, ", {})", self.size)
+    }
+}
+
+impl fmt::Display for Taken {
+    fn fmt<W: fmt::Write>(&self, f: &mut fmt::Formatter<W>) -> fmt::Result {
+        f.write_str("CCW ")?;
+        fmt::UpperHex::fmt(&self.ccw.address, f)?;
+        write!(f, ", code {:02X}, area", self.code)?;
+        for piece in &self.pieces {
+            f.write_str(" ")?;
+            fmt::Display::fmt(piece, f)?;
         }
         Ok(())
     }
 }
 
-// An answer as it is printed, its addresses with so many hexadecimal digits.
-#[derive(Clone, Copy, Debug)]
-pub struct Answer<'a, const DIGITS: usize>(pub &'a Result<Taken, Broken>);
-
-impl<'a, const DIGITS: usize> fmt::Display for Answer<'a, DIGITS> {
+impl fmt::Display for Broken {
     fn fmt<W: fmt::Write>(&self, f: &mut fmt::Formatter<W>) -> fmt::Result {
-        match self.0 {
-            Ok(taken) => {
-                let ccw = taken.ccw.address;
-                let code = taken.code;
-                let area = Area::<DIGITS>(&taken.pieces);
-                write!(f, "CCW {ccw:0DIGITS$X}, code {code:02X}, {area}")
-            }
-            Err(broken) => {
-                let rule = broken.refusal.number();
-                let names = broken.refusal.address();
-                let ccw = broken.ccw;
-                write!(
-                    f,
-                    "rule {rule} names {names:0DIGITS$X}, counts from {ccw:0DIGITS$X}"
-                )
-            }
-        }
+        write!(f, "rule {} names ", self.refusal.number())?;
+        fmt::UpperHex::fmt(&self.refusal.address(), f)?;
+        f.write_str(", counts from ")?;
+        fmt::UpperHex::fmt(&self.ccw, f)
     }
 }
+
+impl Error for Broken {}

@@ -66,20 +66,11 @@ pub fn read_up<S: Storage>(
     ensures { answered cell_of result ≡ read_up format (reach (S.bytes storage.now)) (reader (S.bytes storage.now)) address command }
 {
     let ccw = read_ccw(storage, format, address);
-    let Ccw {
-        code,
-        flags,
-        count,
-        ..
-    } = ccw.value;
-    let invalid = is_invalid_command(format, command, code);
+    let invalid = is_invalid_command(format, command, ccw.value.code);
     refuse_if(invalid, Refusal::CodeInvalid(address), address)?;
-    refuse_if(
-        has_refused_flag(flags),
-        Refusal::FlagRefused(address),
-        address,
-    )?;
-    refuse_if(count == 0, Refusal::CountZero(address), address)?;
+    let flagged = has_refused_flag(ccw.value.flags);
+    refuse_if(flagged, Refusal::FlagRefused(address), address)?;
+    refuse_if(ccw.value.count == 0, Refusal::CountZero(address), address)?;
     with_area(storage, ccw, command)
 }
 

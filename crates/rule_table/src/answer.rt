@@ -1,6 +1,6 @@
 use super::row::Expected;
+use rules::pieces::Piece;
 use rules::place::{Broken, Taken};
-use rules::printing::Area;
 use std::fmt;
 
 impl Expected {
@@ -18,12 +18,25 @@ impl Expected {
     }
 }
 
+// The pieces of an area as they are printed.
+#[derive(Clone, Copy, Debug)]
+struct Area<'a>(&'a [Piece]);
+
+impl<'a> fmt::Display for Area<'a> {
+    fn fmt<W: fmt::Write>(&self, f: &mut fmt::Formatter<W>) -> fmt::Result {
+        for piece in self.0 {
+            write!(f, " {piece:08}")?;
+        }
+        Ok(())
+    }
+}
+
 impl fmt::Display for Expected {
     fn fmt<W: fmt::Write>(&self, f: &mut fmt::Formatter<W>) -> fmt::Result {
         match *self {
             Expected::Accepted(ccw, code, area) => {
-                let area = Area::<8>(area);
-                write!(f, "CCW {ccw:08X}, code {code:02X}, {area}")
+                let area = Area(area);
+                write!(f, "CCW {ccw:08X}, code {code:02X}, area{area}")
             }
             Expected::Refused(rule, names, counts_from) => {
                 write!(

@@ -2,7 +2,6 @@ use super::row::{Row, Section};
 use super::storage::build;
 use format::ccw::Format;
 use rules::place::Place;
-use rules::printing::Answer;
 use rules::storage::Plain;
 use rules::taking_up::take_up;
 
@@ -25,7 +24,10 @@ impl Tally {
             println!(rt; "as expected")?;
         } else {
             self.wrong = self.wrong.saturating_add(1);
-            println!(rt; "WRONG: got {}", Answer::<8>(&taken))?;
+            match taken {
+                Ok(taken) => println!(rt; "WRONG: got {taken:08}")?,
+                Err(broken) => println!(rt; "WRONG: got {broken:08}")?,
+            }
         }
         Ok(())
     }

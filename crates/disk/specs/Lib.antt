@@ -1,5 +1,5 @@
 pub mod Blocks
-pub mod Reach
+pub mod Codes
 pub mod DiskState
 pub mod DiskMachine
 pub mod DiskLaws

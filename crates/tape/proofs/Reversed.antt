@@ -1,6 +1,7 @@
 -- The front and the rest of a reversed list.
-use Rattle.std.proofs.Common.{◌≡◌, ℕ, ◌-◌, ◌≤◌, List, ◌++◌, reverse, length, take, drop, sym, ap, ◌∙◌, arith, length-drop}
-use Rattle.std.proofs.lemmas.List.{take_at, drop_at, take-append-drop, reverse-append, length-reverse}
+use Rattle.std.proofs.Common.{◌≡◌, ℕ, ◌-◌, ◌≤◌, List, [], ◌++◌, reverse, length, take, drop, sym, ap, ◌∙◌, inl, inr, arith, length-drop}
+use Rattle.std.proofs.lemmas.List.{take_at, drop_at, drop_all, take-append-drop, reverse-append, length-reverse}
+use Rattle.std.proofs.lemmas.Bool.{cases_lt}
 
 split : (j : ℕ) (l : List ℕ) → reverse l ≡ reverse (drop j l) ++ reverse (take j l)
 split j l = ap reverse (sym (take-append-drop j l)) ∙ reverse-append (take j l) (drop j l)
@@ -11,5 +12,12 @@ size k l h = omega (arith, length-reverse (drop (length l - k) l), length-drop (
 pub take-reverse : (k : ℕ) (l : List ℕ) → k ≤ length l → take k (reverse l) ≡ reverse (drop (length l - k) l)
 take-reverse k l h = ap (take k) (split (length l - k) l) ∙ take_at _ _ k (size k l h)
 
-pub drop-reverse : (k : ℕ) (l : List ℕ) → k ≤ length l → drop k (reverse l) ≡ reverse (take (length l - k) l)
-drop-reverse k l h = ap (drop k) (split (length l - k) l) ∙ drop_at _ _ k (size k l h)
+pub drop-reverse : (k : ℕ) (l : List ℕ) → drop k (reverse l) ≡ reverse (take (length l - k) l)
+drop-reverse k l =
+    elim (cases_lt (length l) k) [
+      | inl w ↦
+          let past : length (reverse l) ≤ k = omega (arith, length-reverse l) in
+          let none : length l - k ≡ 0 = omega arith in
+          drop_all k (reverse l) past ∙ sym (ap (λ j. reverse (take j l)) none)
+      | inr w ↦ ap (drop k) (split (length l - k) l) ∙ drop_at _ _ k (size k l w)
+    ]

@@ -4,3 +4,4 @@ pub mod TapeMachine
 pub mod TapeLaws
 pub mod Meaning
 pub mod Cutting
+pub mod ReelState

@@ -1,24 +1,8 @@
-use Rattle.std.proofs.Common.{◌≡◌, ◌+◌, ◌-◌, ◌≤◌, min, [], ◌++◌, reverse, length, take, drop, sym, ap, ◌∙◌, arith, length-drop}
-use Rattle.std.proofs.Math.Seq.{take-nil}
-use Rattle.std.proofs.lemmas.List.{drop_all, length-reverse}
+use Rattle.std.proofs.Common.{◌≡◌, ◌-◌, ◌≤◌, min, ◌++◌, reverse, length, take, drop, sym, ap, ◌∙◌, arith, rules}
+use Rattle.std.proofs.lemmas.List.{length-reverse}
 use Rattle.unit.proofs.Parts.{take_min, left_after}
 use Rattle.tape.proofs.Reversed.{take-reverse, drop-reverse}
 use Rattle.tape.proofs.reversing.hand_out_reversed.Goals as goal
-
-pub returns-then-gone-bytes : goal.returns-then-gone-bytes
-returns-then-gone-bytes c =
-    let buffer = c.args.buffer.now in
-    let bytes = reverse c.args.bytes.now in
-    let gone = c.args.gone in
-    let size = length-reverse c.args.bytes.now in
-    let past : length bytes ≤ gone = omega arith in
-    let none : drop gone bytes ≡ [] = drop_all gone bytes past in
-    let same : gone + 0 ≡ gone = omega arith in
-    record {
-      count = omega (arith, length-drop gone bytes);
-      copied = sym (ap (λ x. take (length buffer) x ++ buffer) none ∙ ap (λ x. x ++ buffer) (take-nil (length buffer)));
-      left = ap (λ n. drop n bytes) same ∙ none ∙ sym (ap (drop (length buffer)) none ∙ drop_all (length buffer) [] (omega arith));
-    }
 
 pub returns : goal.returns
 returns c =
@@ -27,8 +11,10 @@ returns c =
     let gone = c.args.gone in
     let r = c.copy_last_reversed.result in
     let done = c.copy_last_reversed.ensures in
-    let before = take (length bytes - gone) bytes in
-    let rest : reverse before ≡ drop gone (reverse bytes) = sym (drop-reverse gone bytes (omega arith)) in
+    let kept = c.saturating_sub.result in
+    let before = take kept bytes in
+    let fewer : kept ≡ length bytes - gone = search rules in
+    let rest : reverse before ≡ drop gone (reverse bytes) = ap (λ j. reverse (take j bytes)) fewer ∙ sym (drop-reverse gone bytes) in
     let size = length-reverse before in
     let count : r ≡ min (length buffer) (length (drop gone (reverse bytes))) = omega (arith, done.count, ap length rest) in
     let within : r ≤ length before = omega (arith, done.count) in

@@ -1,19 +1,16 @@
 -- The laws of a model. A reader must believe that these are what a device's laws ask of its own commands.
-use Rattle.std.specs.Prelude.{◌≡◌, ℕ, ◌+◌, ◌≤◌, Bool, true, false, List, [], ◌++◌, length, take}
+use Rattle.std.specs.Prelude.{◌≡◌, ℕ, ◌+◌, ◌≤◌, Bool, List, [], ◌++◌, length, take, Ok, Err, Result}
 use Rattle.format.specs.Classes.{class_of, reads_storage}
-use Rattle.device.specs.Machine.{Pending, shut, giving, taking, due, room, less_given, less_taken}
+use Rattle.device.specs.declared.interface.Begun.{Begun}
+use Rattle.device.specs.Machine.{Pending, shut, due, room, less_given, less_taken}
+use Rattle.device.specs.Laws.{Opened}
+use Rattle.unit.specs.declared.model.Fault.{Fault}
 use Rattle.unit.specs.Core.{Core}
-use Rattle.unit.specs.declared.model.Started.{Started}
-use Rattle.unit.specs.declared.model.Started.TheVariants.{Unknown, Done, Fault, Open}
 
--- what is pending after an answer: nothing, unless the command opened; for a reading code exactly `most`
--- bytes, which is the least too; for a writing code room for `most`
-abbrev pub OpenedOwn : Bool → Started → Pending → Type 0
-OpenedOwn reads Unknown p = p ≡ shut
-OpenedOwn reads (Done status) p = p ≡ shut
-OpenedOwn reads (Fault status sense) p = p ≡ shut
-OpenedOwn true (Open least most) p = (least ≡ most) × ((bytes : List ℕ) × (p ≡ giving bytes) × (length bytes ≡ most))
-OpenedOwn false (Open least most) p = p ≡ taking most
+-- what is pending after an answer: nothing after a fault, and else what the laws of a device ask
+abbrev pub OpenedOwn : Bool → Result Begun Fault → Pending → Type 0
+OpenedOwn reads (Ok begun) p = Opened reads begun p
+OpenedOwn reads (Err fault) p = p ≡ shut
 
 pub record CoreLaws (c : Core) : Type 0 where
   pub opens : (code : ℕ) (s : c.State) → c.pending s ≡ shut → OpenedOwn (reads_storage (class_of code)) (c.started code s).0 (c.pending (c.started code s).1)

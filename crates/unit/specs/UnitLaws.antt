@@ -1,5 +1,5 @@
 -- A device of a lawful model keeps the laws of a device. A reader must believe nothing here: it is all proof.
-use Rattle.std.specs.Prelude.{◌≡◌, ℕ, zero, suc, ◌+◌, ◌≤◌, Bool, true, false, cond, List, [], ◌∷◌, ◌++◌, length, take, ◌==◌, ◌≢◌, refl}
+use Rattle.std.specs.Prelude.{◌≡◌, ℕ, zero, suc, ◌+◌, ◌≤◌, Bool, true, false, cond, List, [], ◌∷◌, ◌++◌, length, take, Ok, Err, Result, ◌==◌, ◌≢◌, refl}
 use Rattle.std.proofs.Common.{sym, ap, subst, ◌∙◌, arith}
 use Rattle.std.proofs.lemmas.List.{drop_all}
 use Rattle.format.specs.Classes.{class_of, reads_storage}
@@ -11,10 +11,9 @@ use Rattle.unit.specs.Core.{Core, is_open}
 use Rattle.unit.specs.CoreLaws.{CoreLaws, OpenedOwn}
 use Rattle.unit.specs.Lemmas.{class_at}
 use Rattle.unit.specs.UnitMachine.{UnitState, unit_machine, with_sensing, with_core, core_open, sense_pending, sense_given, answer_to, begin_core, begin_sensing, end_sensing, pending_by, begun_by, given_by, taken_by, ended_by}
+use Rattle.unit.specs.declared.model.Fault.{Fault}
 use Rattle.unit.specs.declared.state.Sensing.{Sensing}
 use Rattle.unit.specs.declared.state.Sensing.TheVariants.{Closed, Unread, Read}
-use Rattle.unit.specs.declared.model.Started.{Started}
-use Rattle.unit.specs.declared.model.Started.TheVariants.{Unknown, Done as StartedDone, Fault as StartedFault, Open as StartedOpen}
 
 open_given : (n : ℕ) (p : Pending) → is_open (less_given n p) ≡ is_open p
 open_given n shut = refl
@@ -67,12 +66,9 @@ sense_room Closed byte n = refl
 sense_room Unread byte n = refl
 sense_room Read byte n = refl
 
-opened_by : (reads : Bool) (r : Started) (p : Pending) → OpenedOwn reads r p → Opened reads (answer_to r) p
-opened_by reads Unknown p h = h
-opened_by reads (StartedDone status) p h = h
-opened_by reads (StartedFault status byte) p h = h
-opened_by true (StartedOpen least most) p h = h
-opened_by false (StartedOpen least most) p h = h
+opened_by : (reads : Bool) (r : Result Begun Fault) (p : Pending) → OpenedOwn reads r p → Opened reads (answer_to r) p
+opened_by reads (Ok begun) p h = h
+opened_by reads (Err fault) p h = h
 
 module _ (c : Core) (laws : CoreLaws c) where
   abbrev pending_of : UnitState c → Pending

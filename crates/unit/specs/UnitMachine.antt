@@ -1,16 +1,13 @@
 -- A device: a model and what every device shares. A reader must believe: the sense byte, the answers to the
 -- codes 03 and 04, to unknown codes and to calls out of turn are as here, and all else is the model's.
-use Rattle.std.specs.Prelude.{ℕ, zero, suc, Bool, true, false, cond, List, [], ◌∷◌, ◌==◌}
+use Rattle.std.specs.Prelude.{ℕ, zero, suc, Bool, true, false, cond, List, [], ◌∷◌, Ok, Err, Result, ◌==◌}
 use Rattle.device.specs.declared.interface.Begun.{Begun}
 use Rattle.device.specs.declared.interface.Begun.TheVariants.{Immediate, Open}
 use Rattle.device.specs.Machine.{Machine, Pending, shut, giving}
 use Rattle.unit.specs.Core.{Core, is_open}
+use Rattle.unit.specs.declared.model.Fault.{Fault}
 use Rattle.unit.specs.declared.state.Sensing.{Sensing}
 use Rattle.unit.specs.declared.state.Sensing.TheVariants.{Closed, Unread, Read}
-use Rattle.unit.specs.declared.model.Started.{Started}
-use Rattle.unit.specs.declared.model.Started.TheVariants.{Unknown, Done as StartedDone, Fault as StartedFault, Open as StartedOpen}
-use Rattle.unit.specs.declared.model.Finished.{Finished}
-use Rattle.unit.specs.declared.model.Finished.TheVariants.{Done as FinishedDone, Fault as FinishedFault}
 
 pub record UnitState (c : Core) : Type 0 where
   pub sense : ℕ
@@ -44,34 +41,26 @@ sense_given zero Unread = Unread
 sense_given (suc n) Unread = Read
 sense_given n Read = Read
 
--- what a program hears of the start of a model's command; of an unknown one, status 02
-abbrev pub answer_to : Started → Begun
-answer_to Unknown = Immediate 0x02
-answer_to (StartedDone status) = Immediate status
-answer_to (StartedFault status byte) = Immediate status
-answer_to (StartedOpen least most) = Open least most
+-- what a program hears of the start of a model's command; of a fault, its status
+abbrev pub answer_to : Result Begun Fault → Begun
+answer_to (Ok begun) = begun
+answer_to (Err fault) = Immediate fault.status
 
--- the sense byte after it; of an unknown one, 80
-abbrev pub sense_started : Started → ℕ → ℕ
-sense_started Unknown before = 0x80
-sense_started (StartedDone status) before = before
-sense_started (StartedFault status byte) before = byte
-sense_started (StartedOpen least most) before = before
+-- the status at the end of a model's command
+abbrev pub status_of : Result ℕ Fault → ℕ
+status_of (Ok status) = status
+status_of (Err fault) = fault.status
 
--- the status at the end of a model's command, and the sense byte after it
-abbrev pub status_of : Finished → ℕ
-status_of (FinishedDone status) = status
-status_of (FinishedFault status byte) = status
-
-abbrev pub sense_finished : Finished → ℕ → ℕ
-sense_finished (FinishedDone status) before = before
-sense_finished (FinishedFault status byte) before = byte
+-- the sense byte after the start or the end of a model's command: only a fault sets it
+abbrev pub sense_after : {A : Type 0} → Result A Fault → ℕ → ℕ
+sense_after (Ok answer) before = before
+sense_after (Err fault) before = fault.sense
 
 -- any other code than 03 and 04 is the model's
 abbrev pub begin_core : (c : Core) → ℕ → UnitState c → Begun × UnitState c
 begin_core c code u = (
   answer_to (c.started code u.core).0,
-  record { sense = sense_started (c.started code u.core).0 u.sense; sensing = u.sensing; core = (c.started code u.core).1 },
+  record { sense = sense_after (c.started code u.core).0 u.sense; sensing = u.sensing; core = (c.started code u.core).1 },
 )
 
 -- 03: status 0C; 04: opens with the sense byte
@@ -116,7 +105,7 @@ taken_by c false bytes u = u
 abbrev pub ended_by : (c : Core) → Bool → UnitState c → ℕ × UnitState c
 ended_by c true u = (
   status_of (c.ended u.core).0,
-  record { sense = sense_finished (c.ended u.core).0 u.sense; sensing = Closed; core = (c.ended u.core).1 },
+  record { sense = sense_after (c.ended u.core).0 u.sense; sensing = Closed; core = (c.ended u.core).1 },
 )
 ended_by c false u = end_sensing c u.sensing u
 

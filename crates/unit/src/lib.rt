@@ -6,3 +6,4 @@
 pub mod copying;
 pub mod model;
 pub mod state;
+pub mod status;

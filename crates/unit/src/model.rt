@@ -1,28 +1,28 @@
 ghost use Rattle.std.specs.Prelude.{◌≡◌, min, ◌++◌, length, take as front, drop as behind};
 ghost use Rattle.device.specs.Machine.{due, room};
-ghost use Rattle.unit.specs.Core.{Core, is_open};
+ghost use Rattle.unit.specs.Core.{Core, is_open, unknown_command};
 ghost use Rattle.unit.specs.CoreLaws.{CoreLaws};
 
-// How a model answers a command code.
-#[derive(Clone, Copy)]
-pub enum Started {
-    // No command of this model.
-    Unknown,
-    // Done at once, with this status.
-    Done(u8),
-    // Refused at once, with this status and this sense byte.
-    Fault { status: u8, sense: u8 },
-    // Open: it moves at most `most` bytes, and fewer than `least` is an incorrect length.
-    Open { least: u32, most: u32 },
+use crate::status::REFUSED;
+use device::interface::Begun;
+
+// What a command that fails leaves: its status, and the sense byte that tells why.
+#[derive(Clone, Copy, Debug, PartialEq, Eq)]
+pub struct Fault {
+    pub status: u8,
+    pub sense: u8,
 }
 
-// How a model answers the end of a command.
-#[derive(Clone, Copy)]
-pub enum Finished {
-    // Done, with this status.
-    Done(u8),
-    // Failed, with this status and this sense byte.
-    Fault { status: u8, sense: u8 },
+impl Fault {
+    // The answer to a code that is no command of the device.
+    pub fn unknown_command() -> Fault
+        ensures { result ≡ unknown_command }
+    {
+        Fault {
+            status: REFUSED,
+            sense: 0x80,
+        }
+    }
 }
 
 // A device's own commands.
@@ -38,7 +38,7 @@ pub trait Model {
         ensures { result ≡ is_open (core.pending (state self.now)) };
 
     // Starts a command.
-    fn begin(&mut self, code: u8) -> Started
+    fn begin(&mut self, code: u8) -> Result<Begun, Fault>
         ensures answer { result ≡ (core.started code (state self.old)).0 }
         ensures became { state self.new ≡ (core.started code (state self.old)).1 };
 
@@ -53,8 +53,8 @@ pub trait Model {
         ensures count { result ≡ min (length bytes.now) (room (core.pending (state self.old))) }
         ensures became { state self.new ≡ core.taken bytes.now (state self.old) };
 
-    // Closes the open command.
-    fn end(&mut self) -> Finished
+    // Closes the open command, and answers its status.
+    fn end(&mut self) -> Result<u8, Fault>
         ensures answer { result ≡ (core.ended (state self.old)).0 }
         ensures became { state self.new ≡ (core.ended (state self.old)).1 };
 }

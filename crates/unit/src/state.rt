@@ -2,7 +2,7 @@ pub mod access;
 pub mod commands;
 
 // The sense command.
-#[derive(Clone, Copy)]
+#[derive(Clone, Copy, Debug, PartialEq, Eq)]
 enum Sensing {
     Closed,
     // Open, and the sense byte is still to be handed out.

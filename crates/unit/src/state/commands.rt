@@ -5,8 +5,14 @@ ghost use Rattle.unit.specs.Meaning.{unit_meaning};
 ghost use Rattle.unit.specs.UnitLaws.{unit_laws};
 
 use super::{Sensing, Unit};
-use crate::model::{Finished, Model, Started};
+use crate::model::{Fault, Model};
+use crate::status::{BUSY, ENDED};
 use device::interface::{Begun, Device};
+
+// The codes that each device knows. They are constants and no enum, since any other code is the model's.
+const NO_OPERATION: u8 = 0x03;
+
+const SENSE: u8 = 0x04;
 
 // Hands out the sense byte, if the sense command is open, has it still, and the buffer holds one.
 fn give_sense(sensing: &mut Sensing, byte: u8, buffer: &mut [u8]) -> usize
@@ -14,17 +20,22 @@ fn give_sense(sensing: &mut Sensing, byte: u8, buffer: &mut [u8]) -> usize
     ensures bytes { buffer.new ≡ front (length buffer.old) (due (sense_pending sensing.old byte)) ++ behind result buffer.old }
     ensures became { sensing.new ≡ sense_given (length buffer.old) sensing.old }
 {
-    match *sensing {
-        Sensing::Closed => 0,
-        Sensing::Unread => {
-            if buffer.len() == 0 {
-                return 0;
-            }
-            buffer[0] = byte;
-            *sensing = Sensing::Read;
-            1
-        }
-        Sensing::Read => 0,
+    if *sensing != Sensing::Unread || buffer.is_empty() {
+        return 0;
+    }
+    buffer[0] = byte;
+    *sensing = Sensing::Read;
+    1
+}
+
+impl<M> Unit<M> {
+    // Keeps the sense byte of a fault, and answers its status.
+    fn report(&mut self, fault: Fault) -> u8
+        ensures status { result ≡ fault.status }
+        ensures became { self.new ≡ record self.old { sense = fault.sense } }
+    {
+        self.sense = fault.sense;
+        fault.status
     }
 }
 
@@ -36,30 +47,18 @@ impl<M: Model> Device for Unit<M> {
     ghost state = { unit_meaning M.Model.core M.Model.state };
 
     fn begin(&mut self, code: u8) -> Begun {
-        if self.model.is_open() {
-            return Begun::Immediate(0x10);
-        }
-        match self.sensing {
-            Sensing::Closed => {}
-            _ => return Begun::Immediate(0x10),
+        if self.model.is_open() || self.sensing != Sensing::Closed {
+            return Begun::Immediate(BUSY);
         }
         match code {
-            0x03 => Begun::Immediate(0x0C),
-            0x04 => {
+            NO_OPERATION => Begun::Immediate(ENDED),
+            SENSE => {
                 self.sensing = Sensing::Unread;
                 Begun::Open { least: 1, most: 1 }
             }
             _ => match self.model.begin(code) {
-                Started::Unknown => {
-                    self.sense = 0x80;
-                    Begun::Immediate(0x02)
-                }
-                Started::Done(status) => Begun::Immediate(status),
-                Started::Fault { status, sense } => {
-                    self.sense = sense;
-                    Begun::Immediate(status)
-                }
-                Started::Open { least, most } => Begun::Open { least, most },
+                Ok(begun) => begun,
+                Err(fault) => Begun::Immediate(self.report(fault)),
             },
         }
     }
@@ -82,20 +81,15 @@ impl<M: Model> Device for Unit<M> {
         if self.model.is_open() {
             self.sensing = Sensing::Closed;
             return match self.model.end() {
-                Finished::Done(status) => status,
-                Finished::Fault { status, sense } => {
-                    self.sense = sense;
-                    status
-                }
+                Ok(status) => status,
+                Err(fault) => self.report(fault),
             };
         }
-        match self.sensing {
-            Sensing::Closed => 0x00,
-            _ => {
-                self.sensing = Sensing::Closed;
-                self.sense = 0x00;
-                0x0C
-            }
+        if self.sensing == Sensing::Closed {
+            return 0x00;
         }
+        self.sensing = Sensing::Closed;
+        self.sense = 0x00;
+        ENDED
     }
 }

@@ -1,0 +1,13 @@
+// The statuses that a device answers.
+
+// A command is open.
+pub const BUSY: u8 = 0x10;
+
+// The command came to its end.
+pub const ENDED: u8 = 0x0C;
+
+// The command came to its end with an error, which the sense byte tells.
+pub const FAILED: u8 = 0x0E;
+
+// The command was not begun, for a reason that the sense byte tells.
+pub const REFUSED: u8 = 0x02;

@@ -5,7 +5,7 @@ use Rattle.std.proofs.lemmas.Bool.{cases_lt}
 use Rattle.std.proofs.lemmas.List.Sums.{sum_by-cons, sum_by_more, sum_by_push, sum_by-take-le}
 use Rattle.tape.specs.Cutting.{cut}
 use Rattle.tape.specs.TapeMachine.{bytes_in, room_after}
-use Rattle.tape.specs.ReelState.{ReelFits, stored}
+use Rattle.tape.specs.ReelState.{ReelState, ReelFits, stored}
 
 pub sum_cons : (n : ℕ) (ns : List ℕ) → sum (n ∷ ns) ≡ n + sum ns
 sum_cons n ns = sum_by-cons (λ x. x) n ns
@@ -90,6 +90,27 @@ closed sizes all h =
 pub room_is : (sizes all : List ℕ) → sum sizes ≤ length all → room_after (stored sizes all).blocks - length (stored sizes all).written ≡ min 4096 (8192 - sum sizes) - (length all - sum sizes)
 room_is sizes all h = omega (arith, cut_bytes sizes all h, length-drop (sum sizes) all)
 
+-- the first k of a list, taken twice
+accepted : (m n k : ℕ) (l : List ℕ) → n ≡ min (length l) k → k ≤ m → take m (take n l) ≡ take k l
+accepted m n k l count fits =
+    take_all m (take n l) (omega (arith, length-take n l))
+    ∙ elim (cases_lt k (length l)) [
+      | inl w ↦ let same : n ≡ k = omega arith in ap (λ j. take j l) same
+      | inr w ↦ take_all n l (omega arith) ∙ sym (take_all k l w)
+    ]
+
+-- n bytes behind those that are there, as many as there is room for
+pub appended : (sizes all bytes after : List ℕ) (n : ℕ) (reel : ReelState) → stored sizes all ≡ reel → ReelFits sizes all → n ≡ min (length bytes) (room_after reel.blocks - length reel.written) → after ≡ all ++ take (8192 - length all) (take n bytes) → stored sizes after ≡ record { blocks = reel.blocks; written = reel.written ++ take (room_after reel.blocks - length reel.written) bytes }
+appended sizes all bytes after n reel view fits count is =
+    let k = room_after reel.blocks - length reel.written in
+    let there = fits.there in
+    let room = room_is sizes all there in
+    let same = ap (λ r. room_after r.blocks - length r.written) view in
+    let within : k ≤ 8192 - length all = omega arith in
+    ap (stored sizes) (is ∙ ap (λ x. all ++ x) (accepted (8192 - length all) n k bytes count within))
+    ∙ extended sizes all (take k bytes) there
+    ∙ ap (λ r. record { blocks = r.blocks; written = r.written ++ take k bytes }) view
+
 -- what lengths and bytes keep, kept by the changes
 
 pub fits_truncated : (k : ℕ) (sizes all : List ℕ) → ReelFits sizes all → ReelFits (take k sizes) (take (sum (take k sizes)) all)
@@ -133,4 +154,4 @@ found sizes all k fits h =
       inside,
     )
 
-pub ruleset cuts = (cut_count, cut_at, cut_bytes, bytes_before, truncated, extended, closed)
+pub ruleset cuts = (cut_count, cut_at, cut_bytes, bytes_before, truncated, appended, closed)

@@ -1,3 +1,4 @@
+pub mod Codes
 pub mod Standing
 pub mod TapeState
 pub mod TapeMachine

@@ -1,17 +1,18 @@
 -- What the tape's fields mean. A reader must believe: the blocks and the bytes that are being written are the
 -- reel's, a read stands at the block at the position, or backward at the one before it, and has still to hand out
 -- what lies past the bytes handed out.
-use Rattle.std.specs.Prelude.{ℕ, ◌-◌, Bool, List, [], length, drop, nat_lt, slice_index_or}
+use Rattle.std.specs.Prelude.{ℕ, ◌-◌, Bool, List, [], length, drop, nat_lt, slice_index_or, Result}
 use Rattle.unit.specs.declared.state.Unit.{Unit as Device}
 use Rattle.unit.specs.UnitMachine.{UnitState}
 use Rattle.unit.specs.Meaning.{unit_meaning}
 use Rattle.tape.specs.TapeState.{TapeState, Command, none, writing, reading, reading_backward}
-use Rattle.unit.specs.declared.model.Started.{Started}
+use Rattle.device.specs.declared.interface.Begun.{Begun}
+use Rattle.unit.specs.declared.model.Fault.{Fault}
 use Rattle.tape.specs.TapeMachine.{tape_core, begin_read, begin_read_backward}
 use Rattle.tape.specs.Standing.{in_order}
 use Rattle.tape.specs.declared.state.TapeModel.{TapeModel}
-use Rattle.tape.specs.declared.state.Direction.{Direction}
-use Rattle.tape.specs.declared.state.Direction.TheVariants.{Forward, Backward}
+use Rattle.tape.specs.declared.codes.Direction.{Direction}
+use Rattle.tape.specs.declared.codes.Direction.TheVariants.{Forward, Backward}
 use Rattle.tape.specs.declared.state.Phase.{Phase}
 use Rattle.tape.specs.declared.state.Phase.TheVariants.{Idle, Writing, Reading}
 
@@ -42,7 +43,7 @@ abbrev pub meaning : Device TapeModel → UnitState tape_core
 meaning tape = unit_meaning tape_core model_meaning tape
 
 -- the start of a read in this direction, and whether a block is left there
-abbrev pub begin_in : Direction → TapeState → Started × TapeState
+abbrev pub begin_in : Direction → TapeState → Result Begun Fault × TapeState
 begin_in Forward s = begin_read s
 begin_in Backward s = begin_read_backward s
 

@@ -6,6 +6,7 @@ ghost use Rattle.tape.specs.TapeMachine.{bytes_in, room_after};
 
 use arrayvec::ArrayVec;
 use std::marker::Model;
+use unit::copying::append;
 
 // How many blocks a tape holds.
 pub(crate) const BLOCKS: usize = 64;
@@ -117,9 +118,7 @@ impl Reel {
         ensures became { self.new ≡ record { blocks = self.old.blocks; written = self.old.written ++ take (room_after self.old.blocks - length self.old.written) bytes.now } }
     {
         let n = bytes.len().min(self.room());
-        let fits = self.bytes.try_extend_from_slice(&bytes[..n]).is_ok();
-        prove!(fits);
-        n
+        append(&mut self.bytes, &bytes[..n])
     }
 
     // Makes what is written a block.

@@ -1,7 +1,9 @@
+#![tactic(auto, using(crate::proofs::Reversed::reversed))]
+
 ghost use Rattle.std.specs.Prelude.{◌≡◌, ◌+◌, ◌-◌, ◌≤◌, min, ◌++◌, reverse, length, take, drop};
 ghost use Rattle.tape.specs.Standing.{in_order};
 
-use crate::state::Direction;
+use crate::codes::Direction;
 use unit::copying::hand_out;
 
 // Copies the last bytes, the very last one first, as many as the buffer holds, and says how many.

@@ -1,18 +1,12 @@
 ghost use Rattle.std.specs.Prelude.{◌+◌, ◌≤◌, length};
 ghost use Rattle.tape.specs.Standing.{bytes_read, blocks_written, blocks_read, blocks_read_backward};
 
+use crate::codes::Direction;
 use crate::reel::Reel;
 use unit::state::Unit;
 
 pub mod access;
 pub mod commands;
-
-// Which way a block is read.
-#[derive(Clone, Copy, Debug, PartialEq, Eq)]
-pub(crate) enum Direction {
-    Forward,
-    Backward,
-}
 
 // What the open command does; the number is how many bytes it has handed out.
 #[derive(Clone, Copy, Debug, PartialEq, Eq)]

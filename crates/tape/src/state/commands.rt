@@ -3,21 +3,19 @@ ghost use Rattle.tape.specs.TapeMachine.{tape_core, begin_write, has_room, kept}
 ghost use Rattle.tape.specs.TapeLaws.{tape_laws};
 ghost use Rattle.tape.specs.Meaning.{model_meaning, begin_in, block_in, block_left};
 
-use super::{Direction, Phase, TapeModel};
-use crate::codes::{READ, READ_BACKWARD, REWIND, WRITE};
+use super::{Phase, TapeModel};
+use crate::codes::{Code, Direction};
 use crate::reel::{BLOCKS, CAPACITY};
 use crate::reversing::hand_out_in;
-use unit::model::{Finished, Model as DeviceModel, Started};
+use device::interface::Begun;
+use unit::model::{Fault, Model as DeviceModel};
+use unit::status::{ENDED, FAILED};
 
 // No block or no byte is left where the command needs one.
-fn nothing_left() -> Started
-    ensures { result ≡ Started.Fault 0x0E 0x40 }
-{
-    Started::Fault {
-        status: 0x0E,
-        sense: 0x40,
-    }
-}
+const NOTHING_LEFT: Fault = Fault {
+    status: FAILED,
+    sense: 0x40,
+};
 
 impl TapeModel {
     // Whether a block is left and a byte is left behind the blocks before the position.
@@ -27,17 +25,17 @@ impl TapeModel {
         self.position < BLOCKS && self.reel.start_of(self.position) < CAPACITY
     }
 
-    fn begin_write(&mut self) -> Started
+    fn begin_write(&mut self) -> Result<Begun, Fault>
         ensures answer { result ≡ (begin_write (model_meaning self.old)).0 }
         ensures became { model_meaning self.new ≡ (begin_write (model_meaning self.old)).1 }
     {
         if !self.has_room() {
-            return nothing_left();
+            return Err(NOTHING_LEFT);
         }
         self.reel.truncate(self.position);
         self.phase = Phase::Writing;
         let most = self.reel.room() as u32;
-        Started::Open { least: 1, most }
+        Ok(Begun::Open { least: 1, most })
     }
 
     // The next block in this direction, if one is left there.
@@ -50,16 +48,14 @@ impl TapeModel {
         }
     }
 
-    fn begin_read(&mut self, direction: Direction) -> Started
+    fn begin_read(&mut self, direction: Direction) -> Result<Begun, Fault>
         ensures answer { result ≡ (begin_in direction (model_meaning self.old)).0 }
         ensures became { model_meaning self.new ≡ (begin_in direction (model_meaning self.old)).1 }
     {
-        let Some(block) = self.next_block(direction) else {
-            return nothing_left();
-        };
+        let block = self.next_block(direction).ok_or(NOTHING_LEFT)?;
         let most = block.len() as u32;
         self.phase = Phase::Reading(direction, 0);
-        Started::Open { least: most, most }
+        Ok(Begun::Open { least: most, most })
     }
 }
 
@@ -74,17 +70,15 @@ impl DeviceModel for TapeModel {
         self.phase != Phase::Idle
     }
 
-    fn begin(&mut self, code: u8) -> Started {
-        match code {
-            WRITE => self.begin_write(),
-            READ => self.begin_read(Direction::Forward),
-            READ_BACKWARD => self.begin_read(Direction::Backward),
-            REWIND => {
+    fn begin(&mut self, code: u8) -> Result<Begun, Fault> {
+        match Code::try_from(code)? {
+            Code::Write => self.begin_write(),
+            Code::Read(direction) => self.begin_read(direction),
+            Code::Rewind => {
                 self.position = 0;
                 self.phase = Phase::Idle;
-                Started::Done(0x0C)
+                Ok(Begun::Immediate(ENDED))
             }
-            _ => Started::Unknown,
         }
     }
 
@@ -107,7 +101,7 @@ impl DeviceModel for TapeModel {
         }
     }
 
-    fn end(&mut self) -> Finished {
+    fn end(&mut self) -> Result<u8, Fault> {
         let phase = self.phase;
         self.phase = Phase::Idle;
         match phase {
@@ -121,6 +115,6 @@ impl DeviceModel for TapeModel {
             Phase::Reading(Direction::Forward, _) => self.position += 1,
             Phase::Reading(Direction::Backward, _) => self.position -= 1,
         }
-        Finished::Done(0x0C)
+        Ok(ENDED)
     }
 }

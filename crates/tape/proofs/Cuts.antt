@@ -142,16 +142,27 @@ fits_closed sizes all fits few some =
       small = fits.small;
     }
 
--- the block at an index
-pub found : (sizes all : List ℕ) (k : ℕ) → ReelFits sizes all → k < length sizes → (take (get_or sizes k 0) (drop (sum (take k sizes)) all) ≡ get_or (stored sizes all).blocks k []) × (length (take (get_or sizes k 0) (drop (sum (take k sizes)) all)) ≡ get_or sizes k 0) × (sum (take k sizes) + get_or sizes k 0 ≤ length all)
-found sizes all k fits h =
+-- the block at an index, of bytes that are all of them
+pub found : (sizes all bytes : List ℕ) (k start n : ℕ) (reel : ReelState) → stored sizes all ≡ reel → ReelFits sizes all → bytes ≡ all → k < length sizes → start ≡ sum (take k sizes) → n ≡ get_or sizes k 0 → (k < length reel.blocks) × (take (start + n - start) (drop start bytes) ≡ get_or reel.blocks k []) × (0 < length (take (start + n - start) (drop start bytes))) × (length (take (start + n - start) (drop start bytes)) ≤ 8192)
+found sizes all bytes k start n reel view fits whole inside begins size =
     let there = fits.there in
-    let more = sum_by_more (λ x. x) sizes k 0 h in
+    let small = fits.small in
+    let filled = fits.filled k inside in
+    let count = cut_count sizes all in
+    let blocks = ap (λ r. length r.blocks) view in
+    let more = sum_by_more (λ x. x) sizes k 0 inside in
     let part = sum_by-take-le (λ x. x) sizes (k + 1) in
-    let inside : sum (take k sizes) + get_or sizes k 0 ≤ length all = omega arith in (
-      sym (cut_at sizes all k h),
-      omega (arith, length-take (get_or sizes k 0) (drop (sum (take k sizes)) all), length-drop (sum (take k sizes)) all),
-      inside,
+    let past : start + n - start ≡ n = omega arith in
+    let same : take (start + n - start) (drop start bytes) ≡ take (get_or sizes k 0) (drop (sum (take k sizes)) all) =
+    ap (λ x. take x (drop start bytes)) (past ∙ size)
+    ∙ ap (λ x. take (get_or sizes k 0) (drop x bytes)) begins
+    ∙ ap (λ x. take (get_or sizes k 0) (drop (sum (take k sizes)) x)) whole in
+    let long : length (take (start + n - start) (drop start bytes)) ≡ get_or sizes k 0 =
+    omega (arith, ap length same, length-take (get_or sizes k 0) (drop (sum (take k sizes)) all), length-drop (sum (take k sizes)) all) in (
+      omega arith,
+      same ∙ sym (cut_at sizes all k inside) ∙ ap (λ r. get_or r.blocks k []) view,
+      omega arith,
+      omega arith,
     )
 
-pub ruleset cuts = (cut_count, cut_at, cut_bytes, bytes_before, truncated, appended, closed)
+pub ruleset cuts = (cut_count, cut_at, cut_bytes, bytes_before, truncated, appended, closed, fits_truncated, fits_closed, room_is)

@@ -81,7 +81,7 @@ impl Reel {
         ensures { MatchOption result (length self.now.blocks ≤ index) (λ found. (index < length self.now.blocks) × (found.now ≡ slice_index_or self.now.blocks index []) × (0 < length found.now) × (length found.now ≤ 8192)) }
     {
         let length = *self.lengths.get(index)?;
-        let start = self.start_of(index);
+        let start = total(&self.lengths[..index]);
         Some(&self.bytes[start..start + length])
     }
 

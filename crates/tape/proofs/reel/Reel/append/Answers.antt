@@ -11,9 +11,3 @@ returns-clause-count c =
     let same = ap (λ r. room_after r.blocks - length r.written) c.self.view_is in
     let there = c.self.invariant.there in
     omega (arith, length-take c.min-n.result c.args.bytes.now)
-
-pub returns-clause-became : goal.returns-clause-became
-returns-clause-became c =
-    let sizes = c.self.inside.lengths.items in
-    let all = c.self.inside.bytes.items in
-    appended sizes all c.args.bytes.now c.append.new.sheet.items c.min-n.result c.args.self.now c.self.view_is c.self.invariant (search rules) (search rules)

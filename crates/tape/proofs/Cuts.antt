@@ -1,5 +1,5 @@
 -- Bytes that are cut into blocks of given lengths.
-use Rattle.std.proofs.Common.{◌≡◌, ℕ, zero, suc, ◌+◌, ◌-◌, ◌<◌, ◌≤◌, min, List, [], ◌∷◌, ◌++◌, length, get_or, take, drop, sum, sum_by, sym, refl, ap, subst, ◌∙◌, inl, inr, arith, length-take, length-drop, length-append}
+use Rattle.std.proofs.Common.{◌≡◌, ℕ, zero, suc, ◌+◌, ◌-◌, ◌<◌, ◌≤◌, min, List, [], ◌∷◌, ◌++◌, length, get_or, take, drop, sum, sym, refl, ap, subst, ◌∙◌, inl, inr, arith, length-take, length-drop}
 use Rattle.std.proofs.lemmas.List.{drop-drop, drop_all, take_all, take-take, take-append-le, drop-append-le, drop-take, get_or-take, get_or_append_left, get_or_push, length_push}
 use Rattle.std.proofs.lemmas.Bool.{cases_lt}
 use Rattle.std.proofs.lemmas.List.Sums.{sum_by-cons, sum_by_more, sum_by_push, sum_by-take-le}
@@ -135,9 +135,9 @@ fits_closed sizes all fits few some =
     record {
       few = omega arith;
       filled = λ i h. elim (cases_lt i (length sizes)) [
-          | inl w ↦ subst (λ x. 0 < x) (sym (get_or_append_left sizes _ 0 i w)) (fits.filled i w)
-          | inr w ↦ subst (λ x. 0 < x) (sym (get_or_push sizes (length all - sum sizes) 0 i (omega arith))) some
-        ];
+        | inl w ↦ subst (λ x. 0 < x) (sym (get_or_append_left sizes _ 0 i w)) (fits.filled i w)
+        | inr w ↦ subst (λ x. 0 < x) (sym (get_or_push sizes (length all - sum sizes) 0 i (omega arith))) some
+      ];
       there = omega (arith, sum_by_push (λ x. x) sizes (length all - sum sizes));
       small = fits.small;
     }

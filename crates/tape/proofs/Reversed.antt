@@ -1,5 +1,5 @@
 -- The front and the rest of a reversed list.
-use Rattle.std.proofs.Common.{◌≡◌, ℕ, ◌-◌, ◌≤◌, min, List, [], ◌++◌, reverse, length, take, drop, sym, ap, ◌∙◌, inl, inr, arith, length-drop}
+use Rattle.std.proofs.Common.{◌≡◌, ℕ, ◌-◌, ◌≤◌, min, List, ◌++◌, reverse, length, take, drop, sym, ap, ◌∙◌, inl, inr, arith, length-drop}
 use Rattle.std.proofs.lemmas.List.{take_at, drop_at, drop_all, take_all, take-append-drop, reverse-append, length-reverse}
 use Rattle.std.proofs.lemmas.Bool.{cases_lt}
 

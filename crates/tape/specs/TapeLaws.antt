@@ -1,5 +1,5 @@
 -- The tape keeps the laws of a model. A reader must believe nothing here: it is all proof.
-use Rattle.std.specs.Prelude.{◌≡◌, ℕ, ◌+◌, ◌-◌, ◌≤◌, Bool, true, false, cond, List, [], ◌++◌, reverse, length, take, ◌==◌, nat_lt, slice_index_or, Ok, Err, Result, refl}
+use Rattle.std.specs.Prelude.{◌≡◌, ℕ, ◌+◌, ◌-◌, ◌≤◌, Bool, true, false, cond, List, [], ◌++◌, reverse, length, take, ◌==◌, nat_lt, slice_index_or, Err, Result, refl}
 use Rattle.std.proofs.Common.{sym, ap, subst, ◌∙◌, arith, length-append, length-take}
 use Rattle.std.proofs.Math.Seq.{take-nil}
 use Rattle.std.proofs.lemmas.List.{append-nil, append_assoc, drop-drop, take-take, length-reverse}

@@ -18,6 +18,7 @@ pub(crate) const CAPACITY: usize = 8192;
 const LONGEST: usize = 4096;
 
 // The blocks of a tape, one after the other, and behind them the bytes of a block that is being written.
+// A block is as many bytes as its length says, behind those of the blocks before it.
 #[derive(Drop)]
 pub(crate) struct Reel {
     bytes: ArrayVec<u8, CAPACITY>,
@@ -49,7 +50,9 @@ impl Reel {
     {
         let held: ArrayVec<usize, BLOCKS> = ArrayVec::try_from(lengths).ok()?;
         let bytes: ArrayVec<u8, CAPACITY> = ArrayVec::try_from(bytes).ok()?;
-        let each_fits = lengths.iter().all(|length| 0 < *length && *length <= LONGEST);
+        let each_fits = lengths
+            .iter()
+            .all(|length| 0 < *length && *length <= LONGEST);
         if !each_fits || total(lengths) != bytes.len() {
             return None;
         }

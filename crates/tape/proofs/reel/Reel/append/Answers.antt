@@ -1,8 +1,6 @@
-use Rattle.std.proofs.Common.{◌≡◌, ◌-◌, ◌≤◌, min, ◌++◌, length, take, ap, ◌∙◌, arith, length-take, rules}
-use Rattle.std.proofs.lemmas.List.{take_all, take-take}
-use Rattle.tape.specs.ReelState.{stored}
+use Rattle.std.proofs.Common.{◌-◌, length, ap, arith, length-take}
 use Rattle.tape.specs.TapeMachine.{room_after}
-use Rattle.tape.proofs.Cuts.{room_is, appended}
+use Rattle.tape.proofs.Cuts.{room_is}
 use Rattle.tape.proofs.reel.Reel.append.Goals as goal
 
 pub returns-clause-count : goal.returns-clause-count

@@ -1,5 +1,4 @@
-use Rattle.std.proofs.Common.{◌≡◌, ◌-◌, ◌<◌, [], ◌∷◌, ◌++◌, length, sum, sym, ap, subst, ◌∙◌, arith, rules, length-drop}
-use Rattle.tape.specs.ReelState.{ReelFits}
+use Rattle.std.proofs.Common.{◌≡◌, ◌-◌, [], ◌∷◌, ◌++◌, length, sum, ap, arith, rules, length-drop}
 use Rattle.tape.proofs.Cuts.{cut_count, fits_closed}
 use Rattle.tape.proofs.reel.Reel.close.Goals as goal
 

@@ -1,4 +1,4 @@
-use Rattle.std.proofs.Common.{◌≡◌, ◌≤◌, length, sum, All, sym, ap, ◌∙◌, arith, rules}
+use Rattle.std.proofs.Common.{◌≤◌, length, All, arith, rules}
 use Rattle.std.proofs.lemmas.List.Sums.{sum_by-le}
 use Rattle.tape.proofs.reel.Reel.new.Goals as goal
 

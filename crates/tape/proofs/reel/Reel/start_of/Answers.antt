@@ -1,4 +1,4 @@
-use Rattle.std.proofs.Common.{◌≡◌, length, ap, arith, length-take}
+use Rattle.std.proofs.Common.{length, ap, arith, length-take}
 use Rattle.tape.proofs.Cuts.{cut_count}
 use Rattle.tape.proofs.reel.Reel.start_of.Goals as goal
 

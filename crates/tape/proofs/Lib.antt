@@ -1,4 +1,2 @@
-pub mod Blocks
-pub mod Reversed
-pub mod Tapes
 pub mod Cuts
+pub mod Reversed

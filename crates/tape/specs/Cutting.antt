@@ -17,7 +17,3 @@ pub record LengthsFit (sizes : List ℕ) : Type 0 where
 pub record Holdable (all sizes : List ℕ) : Type 0 where
   pub fit : LengthsFit sizes
   pub whole : sum sizes ≡ length all
-
--- each block starts where those before it end, and the last start is the end of all
-abbrev pub StartsOf : List ℕ → List ℕ → Type 0
-StartsOf sizes bounds = (k : ℕ) → k ≤ length sizes → slice_index bounds k ≡ sum (take k sizes)

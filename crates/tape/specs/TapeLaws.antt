@@ -1,12 +1,13 @@
 -- The tape keeps the laws of a model. A reader must believe nothing here: it is all proof.
-use Rattle.std.specs.Prelude.{◌≡◌, ℕ, ◌+◌, ◌-◌, ◌≤◌, Bool, true, false, cond, List, [], ◌++◌, reverse, length, take, ◌==◌, nat_lt, slice_index_or, refl}
+use Rattle.std.specs.Prelude.{◌≡◌, ℕ, ◌+◌, ◌-◌, ◌≤◌, Bool, true, false, cond, List, [], ◌++◌, reverse, length, take, ◌==◌, nat_lt, slice_index_or, Err, Result, refl}
 use Rattle.std.proofs.Common.{sym, ap, subst, ◌∙◌, arith, length-append, length-take}
 use Rattle.std.proofs.Math.Seq.{take-nil}
 use Rattle.std.proofs.lemmas.List.{append-nil, append_assoc, drop-drop, take-take, length-reverse}
 use Rattle.format.specs.Classes.{class_of, reads_storage}
+use Rattle.device.specs.declared.interface.Begun.{Begun}
 use Rattle.device.specs.Machine.{shut, taking, due, room, less_given, less_taken}
-use Rattle.unit.specs.declared.model.Started.{Started}
-use Rattle.unit.specs.declared.model.Started.TheVariants.{Unknown}
+use Rattle.unit.specs.declared.model.Fault.{Fault}
+use Rattle.unit.specs.Core.{unknown_command}
 use Rattle.unit.specs.Lemmas.{class_at, drop_past, take_two}
 use Rattle.unit.specs.CoreLaws.{CoreLaws, OpenedOwn}
 use Rattle.tape.specs.TapeState.{TapeState, Command, none, writing, reading, reading_backward}
@@ -19,13 +20,13 @@ shut_is_none (reading rest) stored h = cc
 shut_is_none (reading_backward rest) stored h = cc
 
 -- the answer fits what is pending after it
-FitsPending : Bool → Started × TapeState → Type 0
+FitsPending : Bool → Result Begun Fault × TapeState → Type 0
 FitsPending reads x = OpenedOwn reads x.0 (pending_during x.1.command x.1.blocks)
 
 stays_shut : (s : TapeState) → s.command ≡ none → pending_during s.command s.blocks ≡ shut
 stays_shut s e = ap (λ c. pending_during c s.blocks) e
 
-fits_either : (reads b : Bool) (x y : Started × TapeState) → FitsPending reads x → FitsPending reads y → FitsPending reads (cond b x y)
+fits_either : (reads b : Bool) (x y : Result Begun Fault × TapeState) → FitsPending reads x → FitsPending reads y → FitsPending reads (cond b x y)
 fits_either reads true x y g h = g
 fits_either reads false x y g h = h
 
@@ -53,7 +54,7 @@ read_backward_fits s e =
     fits_either true (nat_lt 0 s.position) _ _ (refl, (reverse previous, refl, length-reverse previous)) (refuse_fits true s e)
 
 -- by the tests for the codes 01, 02, 0C and 07
-begin_fits : (reads one two twelve seven : Bool) (s : TapeState) → (one ≡ true → reads ≡ false) → (two ≡ true → reads ≡ true) → (twelve ≡ true → reads ≡ true) → s.command ≡ none → FitsPending reads (cond one (begin_write s) (cond two (begin_read s) (cond twelve (begin_read_backward s) (cond seven (rewind s) (Unknown, s)))))
+begin_fits : (reads one two twelve seven : Bool) (s : TapeState) → (one ≡ true → reads ≡ false) → (two ≡ true → reads ≡ true) → (twelve ≡ true → reads ≡ true) → s.command ≡ none → FitsPending reads (cond one (begin_write s) (cond two (begin_read s) (cond twelve (begin_read_backward s) (cond seven (rewind s) (Err unknown_command, s)))))
 unfolding FitsPending
 begin_fits reads true two twelve seven s f g h e =
     subst (λ (b : Bool). FitsPending b (begin_write s)) (sym (f refl)) (write_fits s e)

@@ -1,12 +1,11 @@
 -- The tape's commands. A reader must believe: 64 blocks, 8,192 bytes in all, 4,096 in one block, and for each
 -- code the answer and the state after it, are as here; what every device shares is added by `unit_machine`.
-use Rattle.std.specs.Prelude.{ℕ, ◌+◌, ◌-◌, min, Bool, cond, ◌&&◌, List, [], ◌∷◌, ◌++◌, reverse, length, take, drop, sum_by, ◌==◌, nat_lt, slice_index_or}
+use Rattle.std.specs.Prelude.{ℕ, ◌+◌, ◌-◌, min, Bool, cond, ◌&&◌, List, [], ◌∷◌, ◌++◌, reverse, length, take, drop, sum_by, ◌==◌, nat_lt, slice_index_or, Ok, Err, Result}
+use Rattle.device.specs.declared.interface.Begun.{Begun}
+use Rattle.device.specs.declared.interface.Begun.TheVariants.{Immediate, Open}
 use Rattle.device.specs.Machine.{Machine, Pending, shut, giving, taking}
-use Rattle.unit.specs.declared.model.Started.{Started}
-use Rattle.unit.specs.declared.model.Started.TheVariants.{Unknown, Done as StartedDone, Fault, Open}
-use Rattle.unit.specs.declared.model.Finished.{Finished}
-use Rattle.unit.specs.declared.model.Finished.TheVariants.{Done}
-use Rattle.unit.specs.Core.{Core}
+use Rattle.unit.specs.declared.model.Fault.{Fault}
+use Rattle.unit.specs.Core.{Core, unknown_command}
 use Rattle.unit.specs.UnitMachine.{UnitState, unit_machine, unit_at_first}
 use Rattle.tape.specs.TapeState.{TapeState, Command, none, writing, reading, reading_backward}
 
@@ -25,9 +24,13 @@ room_after stored = min 4096 (8192 - bytes_in stored)
 abbrev pub has_room : List (List ℕ) → Bool
 has_room stored = nat_lt (length stored) 64 && nat_lt (bytes_in stored) 8192
 
--- status 0E and sense 40, and nothing changes
-abbrev pub refuse : TapeState → Started × TapeState
-refuse s = (Fault 0x0E 0x40, s)
+-- no block or no byte is left: status 0E and sense 40
+abbrev pub nothing_left : Fault
+nothing_left = record { status = 0x0E; sense = 0x40 }
+
+-- and nothing changes
+abbrev pub refuse : TapeState → Result Begun Fault × TapeState
+refuse s = (Err nothing_left, s)
 
 -- what a write keeps: the blocks before the position
 abbrev pub kept : TapeState → List (List ℕ)
@@ -35,33 +38,33 @@ kept s = take s.position s.blocks
 
 -- 01: drops the blocks past the position, and opens for at least 1 byte and as many as there is room for
 -- behind those that it keeps; with no room there it is refused
-abbrev pub begin_write : TapeState → Started × TapeState
+abbrev pub begin_write : TapeState → Result Begun Fault × TapeState
 begin_write s =
-    cond (has_room (kept s)) (Open 1 (room_after (kept s)), record { blocks = kept s; position = s.position; command = writing [] }) (refuse s)
+    cond (has_room (kept s)) (Ok (Open 1 (room_after (kept s))), record { blocks = kept s; position = s.position; command = writing [] }) (refuse s)
 
 -- 02: opens with the next block; with none, it is refused
-abbrev pub begin_read : TapeState → Started × TapeState
+abbrev pub begin_read : TapeState → Result Begun Fault × TapeState
 begin_read s =
     let next = slice_index_or s.blocks s.position [] in
-    cond (nat_lt s.position (length s.blocks)) (Open (length next) (length next), with_open (reading next) s) (refuse s)
+    cond (nat_lt s.position (length s.blocks)) (Ok (Open (length next) (length next)), with_open (reading next) s) (refuse s)
 
 -- 0C: opens with the previous block, its last byte first; with none, it is refused
-abbrev pub begin_read_backward : TapeState → Started × TapeState
+abbrev pub begin_read_backward : TapeState → Result Begun Fault × TapeState
 begin_read_backward s =
     let previous = slice_index_or s.blocks (s.position - 1) [] in
-    cond (nat_lt 0 s.position) (Open (length previous) (length previous), with_open (reading_backward (reverse previous)) s) (refuse s)
+    cond (nat_lt 0 s.position) (Ok (Open (length previous) (length previous)), with_open (reading_backward (reverse previous)) s) (refuse s)
 
 -- 07: stands before the first block; status 0C
-abbrev pub rewind : TapeState → Started × TapeState
-rewind s = (StartedDone 0x0C, record { blocks = s.blocks; position = 0; command = none })
+abbrev pub rewind : TapeState → Result Begun Fault × TapeState
+rewind s = (Ok (Immediate 0x0C), record { blocks = s.blocks; position = 0; command = none })
 
 -- the tape has no other code of its own
-abbrev pub begin_own : ℕ → TapeState → Started × TapeState
+abbrev pub begin_own : ℕ → TapeState → Result Begun Fault × TapeState
 begin_own code s =
     cond (code == 0x01) (begin_write s) (
     cond (code == 0x02) (begin_read s) (
     cond (code == 0x0C) (begin_read_backward s) (
-    cond (code == 0x07) (rewind s) (Unknown, s))))
+    cond (code == 0x07) (rewind s) (Err unknown_command, s))))
 
 -- what the open command has still to move, where these blocks are stored
 abbrev pub pending_during : Command → List (List ℕ) → Pending
@@ -99,9 +102,9 @@ position_after (reading rest) passed = passed + 1
 position_after (reading_backward rest) passed = passed - 1
 
 -- the end: status 0C
-abbrev pub end_own : TapeState → Finished × TapeState
+abbrev pub end_own : TapeState → Result ℕ Fault × TapeState
 end_own s = (
-  Done 0x0C,
+  Ok 0x0C,
   record {
     blocks = blocks_after s.command s.blocks;
     position = position_after s.command s.position;

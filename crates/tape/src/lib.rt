@@ -2,5 +2,7 @@
 // backward, rewinds, and reports by a sense byte.
 #![tactic(auto)]
 
+pub mod codes;
+mod reel;
 mod reversing;
 pub mod state;

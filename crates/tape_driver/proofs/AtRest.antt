@@ -1,11 +1,12 @@
 -- A tape with nothing open: what writes and reads make of it, and the theorems.
-use Rattle.std.proofs.Common.{◌≡◌, ℕ, zero, suc, ◌+◌, ◌-◌, ◌<◌, ◌≤◌, min, Bool, true, false, cond, eqb, List, [], ◌∷◌, ◌++◌, reverse, length, get_or, take, drop, sym, refl, ap, ◌∙◌, arith, length-take}
+use Rattle.std.proofs.Common.{◌≡◌, ℕ, zero, suc, ◌+◌, ◌-◌, ◌<◌, ◌≤◌, min, Bool, true, false, cond, eqb, List, [], ◌∷◌, ◌++◌, reverse, length, get_or, take, drop, Ok, Result, sym, refl, ap, ◌∙◌, arith, length-take}
 use Rattle.std.proofs.lemmas.List.{take_all, take_at, take-take, take-append-le, drop_more, length_push, get_or_push}
 use Rattle.std.proofs.lemmas.Bool.{cond-true, lt-ltb, ne_eqb, and_from}
 use Rattle.device.specs.Machine.{shut, due}
-use Rattle.unit.specs.UnitMachine.{UnitState, sense_started}
-use Rattle.unit.specs.declared.model.Started.{Started}
-use Rattle.unit.specs.declared.model.Started.TheVariants.{Open}
+use Rattle.unit.specs.UnitMachine.{UnitState, sense_after}
+use Rattle.device.specs.declared.interface.Begun.{Begun}
+use Rattle.device.specs.declared.interface.Begun.TheVariants.{Open}
+use Rattle.unit.specs.declared.model.Fault.{Fault}
 use Rattle.unit.specs.declared.state.Sensing.{Sensing}
 use Rattle.unit.specs.declared.state.Sensing.TheVariants.{Closed, Unread, Read}
 use Rattle.tape.specs.TapeState.{TapeState, Command, none, writing, reading, reading_backward}
@@ -30,8 +31,8 @@ pub rests_as : (u : UnitState tape_core) → tape_machine.pending u ≡ shut →
 rests_as u h = rests u.sense u.sensing u.core.blocks u.core.position u.core.command h
 
 -- the device after the start of a command, by what the tape answered
-abbrev started_as : ℕ → Started × TapeState → UnitState tape_core
-started_as sense x = record { sense = sense_started x.0 sense; sensing = Closed; core = x.1 }
+abbrev started_as : ℕ → Result Begun Fault × TapeState → UnitState tape_core
+started_as sense x = record { sense = sense_after x.0 sense; sensing = Closed; core = x.1 }
 
 module _ (sense : ℕ) (stored : List (List ℕ)) (p : ℕ) where
   abbrev here : TapeState
@@ -119,7 +120,7 @@ module _ (sense : ℕ) (stored : List (List ℕ)) (p : ℕ) (on_tape : p ≤ len
       ∙ take-take p p stored (omega arith)
 
   abbrev by_room : Bool → UnitState tape_core
-  by_room b = started_as sense (cond b (Open 1 (room_after (take p stored)), record { blocks = take p stored; position = p; command = writing [] }) (refuse (record { blocks = stored; position = p; command = none })))
+  by_room b = started_as sense (cond b (Ok (Open 1 (room_after (take p stored))), record { blocks = take p stored; position = p; command = writing [] }) (refuse (record { blocks = stored; position = p; command = none })))
 
   stay_started : (b : Bool) → take p (by_room b).core.blocks ≡ take p stored
   stay_started true = take-take p p stored (omega arith)

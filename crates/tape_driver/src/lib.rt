@@ -5,37 +5,32 @@ ghost use Rattle.std.specs.Prelude.{◌≡◌, ◌<◌, ◌≤◌, min, ◌++◌
 ghost use Rattle.device.specs.Machine.{shut, room};
 ghost use Rattle.tape.specs.TapeMachine.{tape_machine};
 ghost use Rattle.tape.specs.Meaning.{meaning};
+ghost use Rattle.tape.specs.Codes.{code_of};
+ghost use Rattle.tape.specs.declared.codes.Code.TheVariants.{Read};
 ghost use Rattle.tape_driver.specs.Theorems.{after_begin, after_rewind, after_write, after_read, heard, FitsHere, WrittenIsReadBack, WrittenIsReadBackward, BlocksBeforeStay};
 
 use device::interface::Device;
+use tape::codes::{Code, Direction};
 use tape::state::Tape;
-
-const WRITE: u8 = 0x01;
-
-const READ: u8 = 0x02;
-
-const REWIND: u8 = 0x07;
-
-const READ_BACKWARD: u8 = 0x0C;
 
 // Writes the bytes as one block at the position, and says how many of them the tape took.
 pub fn write_block(tape: &mut Tape, bytes: &[u8]) -> usize
     ensures count { result ≡ min (length bytes.now) (room (tape_machine.pending (after_begin 0x01 (meaning tape.old)))) }
     ensures became { meaning tape.new ≡ after_write bytes.now (meaning tape.old) }
 {
-    let _ = tape.begin(WRITE);
+    let _ = tape.begin(Code::Write.into());
     let taken = tape.take(bytes);
     let _ = tape.end();
     taken
 }
 
-// Reads one block by this code into the buffer, and says how many bytes it got.
-fn read_block(tape: &mut Tape, code: u8, buffer: &mut [u8]) -> usize
-    ensures count { result ≡ min (length buffer.old) (length (heard code (meaning tape.old))) }
-    ensures bytes { buffer.new ≡ take (length buffer.old) (heard code (meaning tape.old)) ++ drop result buffer.old }
-    ensures became { meaning tape.new ≡ after_read code (length buffer.old) (meaning tape.old) }
+// Reads one block in this direction into the buffer, and says how many bytes it got.
+fn read_block(tape: &mut Tape, direction: Direction, buffer: &mut [u8]) -> usize
+    ensures count { result ≡ min (length buffer.old) (length (heard (code_of (Read direction)) (meaning tape.old))) }
+    ensures bytes { buffer.new ≡ take (length buffer.old) (heard (code_of (Read direction)) (meaning tape.old)) ++ drop result buffer.old }
+    ensures became { meaning tape.new ≡ after_read (code_of (Read direction)) (length buffer.old) (meaning tape.old) }
 {
-    let _ = tape.begin(code);
+    let _ = tape.begin(Code::Read(direction).into());
     let given = tape.give(buffer);
     let _ = tape.end();
     given
@@ -44,16 +39,7 @@ fn read_block(tape: &mut Tape, code: u8, buffer: &mut [u8]) -> usize
 fn rewind(tape: &mut Tape)
     ensures { meaning tape.new ≡ after_rewind (meaning tape.old) }
 {
-    let _ = tape.begin(REWIND);
-}
-
-// Reads the block before the position, its last byte first.
-fn read_backward(tape: &mut Tape, buffer: &mut [u8]) -> usize
-    ensures count { result ≡ min (length buffer.old) (length (heard 0x0C (meaning tape.old))) }
-    ensures bytes { buffer.new ≡ take (length buffer.old) (heard 0x0C (meaning tape.old)) ++ drop result buffer.old }
-    ensures became { meaning tape.new ≡ after_read 0x0C (length buffer.old) (meaning tape.old) }
-{
-    read_block(tape, READ_BACKWARD, buffer)
+    let _ = tape.begin(Code::Rewind.into());
 }
 
 // Rewinds, writes the bytes as the only block, rewinds, and reads it into the buffer.
@@ -67,7 +53,7 @@ pub fn write_and_read_back(tape: &mut Tape, bytes: &[u8], buffer: &mut [u8]) -> 
     rewind(tape);
     let _ = write_block(tape, bytes);
     rewind(tape);
-    read_block(tape, READ, buffer)
+    read_block(tape, Direction::Forward, buffer)
 }
 
 // Writes the bytes as one block at the position, and reads it backward into the buffer.
@@ -80,5 +66,5 @@ pub fn write_and_read_backward(tape: &mut Tape, bytes: &[u8], buffer: &mut [u8])
     ensures stay { BlocksBeforeStay }
 {
     let _ = write_block(tape, bytes);
-    read_backward(tape, buffer)
+    read_block(tape, Direction::Backward, buffer)
 }

@@ -1,0 +1,14 @@
+use Rattle.std.proofs.Common.{◌≡◌, ◌-◌, [], ◌∷◌, ◌++◌, length, sum, ap, arith, rules, length-drop}
+use Rattle.tape.proofs.Cuts.{cut_count, fits_closed}
+use Rattle.tape.proofs.reel.Reel.close.Goals as goal
+
+pub invariant_of-self : goal.invariant_of-self
+invariant_of-self c =
+    let sizes = c.self.inside.lengths.items in
+    let all = c.self.inside.bytes.items in
+    let count = cut_count sizes all in
+    let blocks = ap (λ r. length r.blocks) c.self.view_is in
+    let behind = length-drop (sum sizes) all in
+    let written = ap (λ r. length r.written) c.self.view_is in
+    let pushed : c.push.new.self.items ≡ sizes ++ (length all - sum sizes) ∷ [] = search rules in
+    rw pushed (fits_closed sizes all c.self.invariant (omega arith) (omega arith))

@@ -1,7 +1,6 @@
 -- The disk's commands. A reader must believe: for each code the answer and the state after it, what a locate
 -- names, and where the bytes of a write go, are as here; what every device shares is added by `unit_machine`.
 use Rattle.std.specs.Prelude.{ℕ, ◌+◌, ◌-◌, cond, List, [], ◌++◌, length, take, drop, Some, None, Option, Ok, Err, Result, ◌==◌}
-use Rattle.format.specs.Bytes.{reader, half_word_at}
 use Rattle.format.specs.Laying.{put_at}
 use Rattle.device.specs.declared.interface.Begun.{Begun}
 use Rattle.device.specs.declared.interface.Begun.TheVariants.{Open}
@@ -11,6 +10,7 @@ use Rattle.unit.specs.Core.{Core, unknown_command}
 use Rattle.unit.specs.UnitMachine.{UnitState, unit_machine, unit_at_first}
 use Rattle.disk.specs.declared.blocks.Location.{Location}
 use Rattle.disk.specs.Blocks.{size_of, address_of, range_exists, blocks_at}
+use Rattle.disk.specs.Naming.{named_by}
 use Rattle.disk.specs.DiskState.{DiskState, Command, none, locating, writing, reading}
 
 abbrev pub with_open : Command → DiskState → DiskState
@@ -83,14 +83,12 @@ store_during offered (writing address n) store = put_at address (take n offered)
 store_during offered (reading rest) store = store
 
 -- these blocks, if they exist and the command that names them took all 4 bytes
-abbrev pub location_of : ℕ → ℕ → ℕ → Option Location
-location_of taken start blocks =
-    cond (taken == 4) (cond (range_exists start blocks) (Some (record { first = start; count = blocks })) None) None
+abbrev pub location_of : ℕ → Location → Option Location
+location_of taken place = cond (taken == 4) (cond (range_exists place.first place.count) (Some place) None) None
 
--- the location that a locate's bytes name: a count of blocks and the first block, two bytes each
+-- the location that a locate's bytes name
 abbrev pub location_by : List ℕ → Option Location
-location_by taken =
-    location_of (length taken) (half_word_at (reader taken) 2) (half_word_at (reader taken) 0)
+location_by taken = location_of (length taken) (named_by taken)
 
 -- the end of a locate: a location and status 0C, or else none, status 0E and sense 80
 abbrev pub end_locate : Option Location → DiskState → Result ℕ Fault × DiskState

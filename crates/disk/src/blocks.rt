@@ -1,5 +1,6 @@
 ghost use Rattle.std.specs.Prelude.{◌≡◌, ◌+◌, ◌<◌, ◌≤◌, length};
 ghost use Rattle.disk.specs.Blocks.{address_of, block_at, range_exists};
+ghost use Rattle.disk.specs.Naming.{named_by, naming};
 
 use crate::extent::Extent;
 
@@ -39,6 +40,30 @@ impl Location {
             next: address_of(first),
             limit: address_of(end),
         }
+    }
+}
+
+// The blocks that the bytes of a locate name, whether they exist or not.
+impl From<[u8; 4]> for Location {
+    ghost from_gives = { λ bytes place. place ≡ named_by bytes };
+
+    fn from(bytes: [u8; 4]) -> Location {
+        let [count_high, count_low, first_high, first_low] = bytes;
+        Location {
+            first: u16::from_be_bytes([first_high, first_low]),
+            count: u16::from_be_bytes([count_high, count_low]),
+        }
+    }
+}
+
+// The bytes of a locate that name these blocks.
+impl From<Location> for [u8; 4] {
+    ghost from_gives = { λ place bytes. bytes ≡ naming place };
+
+    fn from(location: Location) -> [u8; 4] {
+        let [count_high, count_low] = location.count.to_be_bytes();
+        let [first_high, first_low] = location.first.to_be_bytes();
+        [count_high, count_low, first_high, first_low]
     }
 }
 

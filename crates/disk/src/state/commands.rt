@@ -45,13 +45,8 @@ fn named_location(parameters: &[u8]) -> Option<Location>
     ensures named { result ≡ location_by parameters.now }
     ensures exists { location_end result ≤ 64 }
 {
-    let [count_high, count_low, first_high, first_low] = *parameters else {
-        return None;
-    };
-    let location = Location {
-        first: u16::from_be_bytes([first_high, first_low]),
-        count: u16::from_be_bytes([count_high, count_low]),
-    };
+    let bytes = <[u8; PARAMETERS]>::try_from(parameters).ok()?;
+    let location = Location::from(bytes);
     location.exists().then_some(location)
 }
 

@@ -24,6 +24,7 @@ fn keeps_law(listed: &ArrayVec<u8, MOST_PAGES>, flags: &[bool; MOST_FRAMES]) -> 
     if listed.is_empty() || flags[0] {
         return false;
     }
+    // A loop, not `all`: its invariant is the whole proof, and `all` needs the pages before from its closure.
     for (page, frame) in listed.iter().enumerate() {
         if *frame == 0 || flags[usize::from(*frame)] || listed[..page].contains(frame) {
             return false;

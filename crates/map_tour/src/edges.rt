@@ -1,3 +1,4 @@
+use super::piled::window;
 use super::printing::{print_outcome, print_place, print_put};
 use format::refusal::Refusal;
 use frame_maps::page_table::PageTable;
@@ -89,7 +90,7 @@ fn print_runs(rt: &HostRuntime) -> anyhow::Result<()> {
 }
 
 fn opened(first: usize, count: usize) -> Result<Window<Run>, Refusal> {
-    Window::new(Run::new(1, 4)?, first, count).map_err(|refused| refused.refusal)
+    window(Run::new(1, 4)?, first, count)
 }
 
 fn print_windows(rt: &HostRuntime) -> anyhow::Result<()> {

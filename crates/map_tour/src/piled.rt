@@ -12,7 +12,12 @@ const SOUGHT: [u32; 7] = [
     0x09ABC, 0x02FFF, 0x05000, 0x03000, 0x07000, 0x04ABC, 0x00ABC,
 ];
 
-fn window<M: Map + Drop>(below: M, first: usize, count: usize) -> Result<Window<M>, Refusal> {
+// A window, or why there is none; the map below is let go then.
+pub(crate) fn window<M: Map + Drop>(
+    below: M,
+    first: usize,
+    count: usize,
+) -> Result<Window<M>, Refusal> {
     Window::new(below, first, count).map_err(|refused| refused.refusal)
 }
 

@@ -35,8 +35,7 @@ fn keeps_law(listed: &ArrayVec<u8, MOST_PAGES>, flags: &[bool; MOST_FRAMES]) -> 
 
 // The flags of a list of frames.
 fn flags_of(frames: &[u8]) -> [bool; MOST_FRAMES]
-    ensures long { length result ≡ 256 }
-    ensures same { (f : ℕ) → flagged result f ≡ among frames.now f }
+    ensures { (f : ℕ) → flagged result f ≡ among frames.now f }
 {
     let mut flags = [false; MOST_FRAMES];
     for frame in frames {

@@ -1,3 +1,2 @@
 mod Flags
-mod Puts
 mod Runs

@@ -1,6 +1,6 @@
-ghost use Rattle.std.specs.Prelude.{◌≡◌, ℕ, ◌+◌, ◌≤◌, length, if◌then◌else◌, MatchResult, nat_lt, slice_index};
+ghost use Rattle.std.specs.Prelude.{◌≡◌, MatchResult};
 ghost use Rattle.std.specs.List.{range_with_len};
-ghost use Rattle.map.specs.Law.{Lawful, Ranged, Distinct};
+ghost use Rattle.map.specs.Law.{Lawful};
 ghost use Rattle.frame_maps.specs.FrameSets.{none};
 ghost use Rattle.std.proofs.Common.{rules};
 
@@ -12,21 +12,21 @@ use map::interface::{MOST_FRAMES, MOST_PAGES, Map};
 pub struct Run {
     first: u8,
     count: usize,
-    ghost some: { (1 ≤ count) × (count ≤ 128) },
-    ghost last: { first + count ≤ 256 },
-    ghost long: { length (range_with_len first count) ≡ count },
-    ghost each: { (i : ℕ) → slice_index (range_with_len first count) i ≡ (if nat_lt i count then first + i else 0) },
-    ghost ranged: { Ranged (range_with_len first count) },
-    ghost distinct: { Distinct (range_with_len first count) },
+    ghost lawful: { Lawful (range_with_len first count) none },
 }
 
 impl Run {
+    #[tactic(auto, using(crate::proofs::Runs::run_lawful, crate::proofs::Runs::run_bounds))]
     pub fn new(first: u8, count: usize) -> Result<Run, Refusal>
         ensures { MatchResult result
             (λ m. Lawful (range_with_len first count) none × (m.first ≡ first) × (m.count ≡ count))
             (λ e. (e ≡ Refusal.MapUnlawful) × (Lawful (range_with_len first count) none → ⊥)) }
     {
-        if first == 0 || count == 0 || count > MOST_PAGES || first as usize + count > MOST_FRAMES {
+        if first == 0
+            || count == 0
+            || count > MOST_PAGES
+            || usize::from(first) + count > MOST_FRAMES
+        {
             return Err(Refusal::MapUnlawful);
         }
         Ok(Run { first, count })
@@ -40,10 +40,12 @@ impl Map for Run {
 
     ghost lawful = { Prim.search rules };
 
+    #[tactic(auto, using(crate::proofs::Runs::run_long))]
     fn page_count(&self) -> usize {
         self.count
     }
 
+    #[tactic(auto, using(crate::proofs::Runs::run_each, crate::proofs::Runs::run_bounds))]
     fn frame_of(&self, page: usize) -> u8 {
         if page < self.count {
             self.first + page as u8

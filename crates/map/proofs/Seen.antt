@@ -21,3 +21,6 @@ module _ (fs host : List ℕ) where
   copy_is copy c =
       ext_get_or 0 copy (guest_bytes fs host) (c.0 ∙ sym length-guest_bytes)
       (λ i h. let inside : i < end_of fs = rw c.0 at h in c.1 i inside ∙ sym (get_or-guest_bytes i inside))
+
+-- what the functions of a view need
+pub ruleset seen = (length-guest_bytes, get_or-guest_bytes, copy_is)

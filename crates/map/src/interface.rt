@@ -18,7 +18,7 @@ pub trait Map {
     fn page_count(&self) -> usize
         ensures { result ≡ length (frames self.now) };
 
-    // The frame of a page; 0 past the last page.
+    // The frame of a page; 0, which serves no page, past the last page, as docs/RULES.md has it: so no Option.
     fn frame_of(&self, page: usize) -> u8
         ensures { result ≡ slice_index (frames self.now) page };
 

@@ -19,12 +19,7 @@ fn page_of<M: Map>(map: &M, frame: u32) -> Option<usize>
         ((k : ℕ) → k < length (M.frames map.now) → slice_index (M.frames map.now) k ≢ frame)
         (λ page. (page < length (M.frames map.now)) × (slice_index (M.frames map.now) page ≡ frame)) }
 {
-    for page in 0..map.page_count() {
-        if map.frame_of(page) as u32 == frame {
-            return Some(page);
-        }
-    }
-    None
+    (0..map.page_count()).find(|page| u32::from(map.frame_of(*page)) == frame)
 }
 
 // The host address at which a guest address lies.
@@ -35,11 +30,11 @@ pub fn place<M: Map>(map: &M, address: GuestAddress) -> Result<HostAddress, Refu
     ensures alone { IfOk result (λ host. NeverShared (M.frames map.now) address.0 host.0) }
     ensures offset { IfOk result (λ host. OffsetKept address.0 host.0) }
 {
-    let page = (address.0 / PAGE_SIZE) as usize;
+    let page = address.page();
     if page >= map.page_count() {
         return Err(Refusal::PastGuestEnd(address.0));
     }
-    Ok(HostAddress(in_page(map.frame_of(page) as u32, address.0)))
+    Ok(HostAddress(in_page(u32::from(map.frame_of(page)), address.0)))
 }
 
 // The guest address that lies at a host address, if one does.
@@ -50,6 +45,6 @@ pub fn home<M: Map>(map: &M, address: HostAddress) -> Option<GuestAddress>
     ensures place { HomeOfPlace (M.frames map.now) address.0 result }
     ensures other { HomeOfOther (M.frames map.now) address.0 result }
 {
-    let page = page_of(map, address.0 / PAGE_SIZE)?;
+    let page = page_of(map, address.frame())?;
     Some(GuestAddress(in_page(page as u32, address.0)))
 }

@@ -32,48 +32,30 @@ impl<'a, M: Map> GuestView<'a, M> {
         Ok(host.byte(at.0 as usize))
     }
 
-    // How many bytes the guest has, and which they are.
-    fn size(&self) -> usize
-        ensures is { result ≡ end_of (M.frames self.now.map.now) }
-        ensures small { result ≤ 128 * 4096 }
-        ensures bytes { ByPlace (M.frames self.now.map.now) self.now.host.now
-            (guest_bytes (M.frames self.now.map.now) self.now.host.now) }
-        ensures past { (address : ℕ) → result ≤ address → slice_index (guest_bytes (M.frames self.now.map.now) self.now.host.now) address ≡ 0 }
-    {
-        self.map.page_count() * PAGE_SIZE as usize
-    }
-
-    // Takes up a place as on the guest's bytes in a row.
-    fn take_up_in_place(&self, format: Format, place: Place) -> Result<Taken, Broken>
-        ensures { answered cell_of result ≡ taken_up format (guest_bytes (M.frames self.now.map.now) self.now.host.now) place }
-    {
-        take_up(self, format, place)
-    }
-
     // Takes up a place of the guest's program where it lies.
+    #[tactic(auto, using(crate::proofs::Seen::seen))]
     pub fn take_up(&self, format: Format, place: Place) -> Result<Taken, Broken>
         ensures bytes { ByPlace (M.frames self.now.map.now) self.now.host.now
             (guest_bytes (M.frames self.now.map.now) self.now.host.now) }
         ensures answer { AsOnACopy (M.frames self.now.map.now) self.now.host.now format place result }
     {
-        self.take_up_in_place(format, place)
+        take_up(self, format, place)
     }
 }
 
 impl<'a, M: Map> Storage for GuestView<'a, M> {
     ghost bytes = { λ v. guest_bytes (M.Map.frames v.map.now) v.host.now };
 
+    #[tactic(auto, using(crate::proofs::Seen::seen))]
     fn len(&self) -> usize {
-        self.size()
+        self.map.page_count() * PAGE_SIZE as usize
     }
 
+    #[tactic(auto, using(crate::proofs::Seen::seen))]
     fn byte(&self, address: usize) -> u8 {
-        if address >= self.size() {
+        if address >= self.len() {
             return 0;
         }
-        match self.read(GuestAddress(address as u32)) {
-            Ok(byte) => byte,
-            Err(_) => 0,
-        }
+        self.read(GuestAddress(address as u32)).unwrap_or(0)
     }
 }

@@ -1,5 +1,5 @@
+use super::piled::window;
 use super::printing::{print_outcome, print_place, print_put};
-use anyhow::anyhow;
 use format::refusal::Refusal;
 use frame_maps::page_table::PageTable;
 use frame_maps::run::Run;
@@ -63,27 +63,20 @@ const RUNS: [(u8, usize); 9] = [
 // First page and number of pages of windows on four pages.
 const WINDOWS: [(usize, usize); 7] = [(0, 4), (3, 1), (0, 0), (4, 0), (0, 5), (1, 4), (4, 1)];
 
-fn only_whether<T: Drop>(made: Result<T, Refusal>) -> Result<(), Refusal> {
-    match made {
-        Ok(_) => Ok(()),
-        Err(refusal) => Err(refusal),
-    }
-}
+// Page and frame of puts on two pages.
+const PUTS: [(usize, u8); 6] = [(2, 255), (0, 3), (0, 4), (0, 0), (1, 255), (0, 3)];
 
 // A page table of so many pages, in the frames from 1 on.
 fn print_long_table(rt: &HostRuntime, count: u8) -> anyhow::Result<()> {
-    let mut listed = Vec::new(rt.alloc());
-    for page in 0..count {
-        listed.push(page + 1)?;
-    }
+    let listed: Vec<u8> = (1..=count).collect(rt.alloc())?;
     print!(rt; "  page table, page count {count}: ")?;
-    print_outcome(rt, only_whether(PageTable::new(&listed, &[])))
+    print_outcome(rt, PageTable::new(&listed, &[]))
 }
 
 fn print_tables(rt: &HostRuntime) -> anyhow::Result<()> {
     for given in TABLES {
         print!(rt; "  page table {:?}, free {:?}: ", given.listed, given.free)?;
-        print_outcome(rt, only_whether(PageTable::new(given.listed, given.free)))?;
+        print_outcome(rt, PageTable::new(given.listed, given.free))?;
     }
     Ok(())
 }
@@ -91,16 +84,13 @@ fn print_tables(rt: &HostRuntime) -> anyhow::Result<()> {
 fn print_runs(rt: &HostRuntime) -> anyhow::Result<()> {
     for (first, count) in RUNS {
         print!(rt; "  run from frame {first}, page count {count}: ")?;
-        print_outcome(rt, only_whether(Run::new(first, count)))?;
+        print_outcome(rt, Run::new(first, count))?;
     }
     Ok(())
 }
 
-fn opened(first: usize, count: usize) -> Result<(), Refusal> {
-    match Window::new(Run::new(1, 4)?, first, count) {
-        Ok(_) => Ok(()),
-        Err(refused) => Err(refused.refusal),
-    }
+fn opened(first: usize, count: usize) -> Result<Window<Run>, Refusal> {
+    window(Run::new(1, 4)?, first, count)
 }
 
 fn print_windows(rt: &HostRuntime) -> anyhow::Result<()> {
@@ -113,28 +103,19 @@ fn print_windows(rt: &HostRuntime) -> anyhow::Result<()> {
 
 // The last byte of the largest guest, and the first past it.
 fn print_last_bytes(rt: &HostRuntime) -> anyhow::Result<()> {
-    match Run::new(128, 128) {
-        Ok(run) => {
-            print_place(rt, &run, 0x7FFFF)?;
-            print_place(rt, &run, 0x80000)?;
-            print_place(rt, &run, 0xFFFFFFFF)
-        }
-        Err(_) => Err(anyhow!("a run was refused")),
+    let run = Run::new(128, 128)?;
+    for address in [0x7FFFF, 0x80000, 0xFFFFFFFF] {
+        print_place(rt, &run, address)?;
     }
+    Ok(())
 }
 
 fn print_puts(rt: &HostRuntime) -> anyhow::Result<()> {
-    match PageTable::new(&[5, 3], &[255]) {
-        Ok(mut table) => {
-            print_put(rt, &mut table, 2, 255)?;
-            print_put(rt, &mut table, 0, 3)?;
-            print_put(rt, &mut table, 0, 4)?;
-            print_put(rt, &mut table, 0, 0)?;
-            print_put(rt, &mut table, 1, 255)?;
-            print_put(rt, &mut table, 0, 3)
-        }
-        Err(_) => Err(anyhow!("a page table was refused")),
+    let mut table = PageTable::new(&[5, 3], &[255])?;
+    for (page, frame) in PUTS {
+        print_put(rt, &mut table, page, frame)?;
     }
+    Ok(())
 }
 
 pub(crate) fn tour(rt: &HostRuntime) -> anyhow::Result<()> {

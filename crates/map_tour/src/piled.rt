@@ -1,5 +1,5 @@
 use super::printing::{print_home, print_map, print_place, print_put};
-use anyhow::anyhow;
+use format::refusal::Refusal;
 use frame_maps::page_table::PageTable;
 use map::interface::Map;
 use window::Window;
@@ -12,18 +12,13 @@ const SOUGHT: [u32; 7] = [
     0x09ABC, 0x02FFF, 0x05000, 0x03000, 0x07000, 0x04ABC, 0x00ABC,
 ];
 
-fn window<M: Map + Drop>(below: M, first: usize, count: usize) -> anyhow::Result<Window<M>> {
-    match Window::new(below, first, count) {
-        Ok(window) => Ok(window),
-        Err(_) => Err(anyhow!("a window was refused")),
-    }
-}
-
-fn table() -> anyhow::Result<PageTable> {
-    match PageTable::new(&[5, 3, 9, 2], &[7, 4]) {
-        Ok(table) => Ok(table),
-        Err(_) => Err(anyhow!("a page table was refused")),
-    }
+// A window, or why there is none; the map below is let go then.
+pub(crate) fn window<M: Map + Drop>(
+    below: M,
+    first: usize,
+    count: usize,
+) -> Result<Window<M>, Refusal> {
+    Window::new(below, first, count).map_err(|refused| refused.refusal)
 }
 
 fn print_addresses<M: Map>(rt: &HostRuntime, map: &M) -> anyhow::Result<()> {
@@ -48,7 +43,7 @@ fn print_changes<M: Map>(rt: &HostRuntime, name: &str, map: &mut M) -> anyhow::R
 }
 
 pub(crate) fn tour(rt: &HostRuntime) -> anyhow::Result<()> {
-    let table = table()?;
+    let table = PageTable::new(&[5, 3, 9, 2], &[7, 4])?;
     print_map(rt, "page table", &table)?;
     let outer = window(table, 1, 3)?;
     print_map(rt, "window on pages 1 to 3", &outer)?;

@@ -1,10 +1,10 @@
 use format::refusal::Refusal;
 use map::address::{GuestAddress, HostAddress};
-use map::interface::Map;
+use map::interface::{MOST_FRAMES, Map};
 use map::placing::{home, place};
 use std::fmt;
 
-// A refusal as it is printed.
+// A refusal as it is printed here, in other words than its own.
 #[derive(Clone, Copy)]
 pub struct Refused(pub Refusal);
 
@@ -25,7 +25,7 @@ pub(crate) fn print_map<M: Map>(rt: &HostRuntime, name: &str, map: &M) -> anyhow
         print!(rt; " {}", map.frame_of(page))?;
     }
     print!(rt; ", free")?;
-    for frame in 0..256u16 {
+    for frame in 0..MOST_FRAMES {
         if map.is_free(frame as u8) {
             print!(rt; " {frame}")?;
         }
@@ -50,10 +50,13 @@ pub(crate) fn print_home<M: Map>(rt: &HostRuntime, map: &M, address: u32) -> any
     Ok(())
 }
 
-// How a call ended that answers nothing more.
-pub(crate) fn print_outcome(rt: &HostRuntime, outcome: Result<(), Refusal>) -> anyhow::Result<()> {
+// How a call ended, whatever it made.
+pub(crate) fn print_outcome<T: Drop>(
+    rt: &HostRuntime,
+    outcome: Result<T, Refusal>,
+) -> anyhow::Result<()> {
     match outcome {
-        Ok(()) => println!(rt; "done")?,
+        Ok(_) => println!(rt; "done")?,
         Err(refusal) => println!(rt; "{}", Refused(refusal))?,
     }
     Ok(())

@@ -1,15 +1,14 @@
-use anyhow::anyhow;
 use format::ccw::{Ccw, Format};
 use format::flags::Flags;
+use format::laying::put_at;
 use frame_maps::page_table::PageTable;
-use map::address::GuestAddress;
-use map::placing::place;
+use map::interface::Map;
 use map::view::GuestView;
-use rules::pieces::Piece;
 use rules::place::{Broken, Place, Taken};
-use rules::storage::{Plain, Storage};
+use rules::storage::Plain;
 use rules::taking_up::take_up;
-use std::fmt;
+
+const PAGE_SIZE: usize = 4096;
 
 const GUEST_SIZE: usize = 8192;
 
@@ -21,45 +20,7 @@ const IDA: u8 = 0x04;
 // list lies on both, an invalid code, an address inside a CCW, and the guest's end.
 const TAKEN_UP: [u32; 5] = [0x0000, 0x0008, 0x0010, 0x0004, 0x2000];
 
-// An answer as it is printed.
-#[derive(Clone, Copy)]
-struct Answer<'a>(&'a Result<Taken, Broken>);
-
-impl<'a> fmt::Display for Answer<'a> {
-    fn fmt<W: fmt::Write>(&self, f: &mut fmt::Formatter<W>) -> fmt::Result {
-        match *self.0 {
-            Ok(taken) => {
-                write!(
-                    f,
-                    "CCW {:05X}, code {:02X}, area",
-                    taken.ccw.address, taken.code
-                )?;
-                for piece in &taken.pieces.items[..taken.pieces.len] {
-                    let Piece { first, size } = *piece;
-                    write!(f, " ({first:05X}, {size})")?;
-                }
-                Ok(())
-            }
-            Err(broken) => {
-                let rule = broken.refusal.number();
-                let names = broken.refusal.address();
-                write!(
-                    f,
-                    "rule {rule} names {names:05X}, counts from {:05X}",
-                    broken.ccw
-                )
-            }
-        }
-    }
-}
-
-fn write(storage: &mut [u8], at: usize, bytes: &[u8]) {
-    for (place, byte) in storage.iter_mut().skip(at).zip(bytes) {
-        *place = *byte;
-    }
-}
-
-fn write_ccw(storage: &mut [u8], at: usize, code: u8, flags: u8, count: u16, address: u32) {
+fn ccw_bytes(code: u8, flags: u8, count: u16, address: u32) -> [u8; 8] {
     let flags = Flags::from(flags);
     let ccw = Ccw {
         code,
@@ -67,29 +28,33 @@ fn write_ccw(storage: &mut [u8], at: usize, code: u8, flags: u8, count: u16, add
         count,
         address,
     };
-    write(storage, at, &ccw.encode());
+    ccw.encode()
 }
 
 fn write_program(guest: &mut [u8]) {
-    write_ccw(guest, 0x0000, 0x01, 0x00, 16, 0x0FF8);
-    write_ccw(guest, 0x0008, 0x08, 0x00, 0, 0x1010);
-    write_ccw(guest, 0x1010, 0x02, IDA, 3000, 0x0FFC);
-    write(
+    put_at(guest, 0x0000, &ccw_bytes(0x01, 0x00, 16, 0x0FF8));
+    put_at(guest, 0x0008, &ccw_bytes(0x08, 0x00, 0, 0x1010));
+    put_at(guest, 0x1010, &ccw_bytes(0x02, IDA, 3000, 0x0FFC));
+    put_at(
         guest,
         0x0FFC,
         &[0x00, 0x00, 0x09, 0x00, 0x00, 0x00, 0x18, 0x00],
     );
 }
 
-// Lays the guest's bytes where the map places them.
-fn lay(table: &PageTable, guest: &Plain, host: &mut [u8]) {
-    for address in 0..GUEST_SIZE as u32 {
-        if let Ok(at) = place(table, GuestAddress(address)) {
-            if let Some(byte) = host.get_mut(at.0 as usize) {
-                *byte = guest.byte(address as usize);
-            }
-        }
+// Lays each page of the guest into its frame.
+fn lay(table: &PageTable, guest: &[u8], host: &mut [u8]) {
+    for (page, bytes) in guest.chunks(PAGE_SIZE).enumerate() {
+        put_at(host, usize::from(table.frame_of(page)) * PAGE_SIZE, bytes);
     }
+}
+
+fn print_answer(rt: &HostRuntime, answer: &Result<Taken, Broken>) -> anyhow::Result<()> {
+    match answer {
+        Ok(taken) => print!(rt; "{taken:05}")?,
+        Err(broken) => print!(rt; "{broken:05}")?,
+    }
+    Ok(())
 }
 
 fn print_agreement(
@@ -103,27 +68,27 @@ fn print_agreement(
         first: address == 0,
         command: None,
     };
-    let through = format!(in rt.alloc(); "{}", Answer(&view.take_up(Format::One, at)))?;
-    let plain = format!(in rt.alloc(); "{}", Answer(&take_up(copy, Format::One, at)))?;
-    print!(rt; "  take up {address:05X}: {through}; ")?;
+    let through = view.take_up(Format::One, at);
+    let plain = take_up(copy, Format::One, at);
+    print!(rt; "  take up {address:05X}: ")?;
+    print_answer(rt, &through)?;
     if through == plain {
-        println!(rt; "the same on a plain copy")?;
+        println!(rt; "; the same on a plain copy")?;
     } else {
-        println!(rt; "on a plain copy {plain}")?;
+        print!(rt; "; on a plain copy ")?;
+        print_answer(rt, &plain)?;
+        println!(rt; "")?;
     }
     Ok(())
 }
 
 pub(crate) fn tour(rt: &HostRuntime) -> anyhow::Result<()> {
-    let table = match PageTable::new(&[3, 1], &[]) {
-        Ok(table) => table,
-        Err(_) => return Err(anyhow!("a page table was refused")),
-    };
+    let table = PageTable::new(&[3, 1], &[])?;
     let mut guest = vec![in rt.alloc(); 0u8; GUEST_SIZE]?;
     let mut host = vec![in rt.alloc(); 0u8; HOST_SIZE]?;
     write_program(&mut guest);
+    lay(&table, &guest, &mut host);
     let copy = Plain { storage: &guest };
-    lay(&table, &copy, &mut host);
     let view = GuestView {
         map: &table,
         host: &host,

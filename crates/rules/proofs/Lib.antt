@@ -1,5 +1,4 @@
-pub mod Decoding
 pub mod AreaSteps
 pub mod Passing
 pub mod Shapes
-pub mod ReadingUp
+pub mod Filling

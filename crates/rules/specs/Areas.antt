@@ -1,12 +1,12 @@
 -- The area of a CCW. A reader must believe: it is a list of byte addresses in the order of the transfer,
 -- upward or (for read backward) downward, direct or by a list of indirect words, and it is cut into
 -- pieces, each inside one block.
-use Rattle.std.specs.Prelude.{◌≡◌, ℕ, zero, suc, ◌+◌, ◌-◌, ◌%◌, ◌<◌, min, max, Bool, true, false, cond, not, ◌&&◌, ◌||◌, List, [], ◌∷◌, ◌++◌, take, Ok, Result, ◌==◌, nat_lt}
+use Rattle.std.specs.Prelude.{◌≡◌, ℕ, zero, suc, ◌+◌, ◌-◌, ◌%◌, ◌<◌, min, max, Bool, true, false, cond, not, ◌&&◌, ◌||◌, List, [], ◌∷◌, ◌++◌, Ok, Result, ◌==◌, nat_lt}
+use Rattle.arrayvec.specs.ArrayVec.{ArrayVec}
 use Rattle.format.specs.declared.refusal.Refusal.TheVariants.{WordOutside, WordOffBoundary, AreaOutside}
 use Rattle.format.specs.Bytes.{Reader, word_at}
 use Rattle.rules.specs.declared.place.Broken.{Broken}
 use Rattle.rules.specs.declared.pieces.Piece.{Piece}
-use Rattle.rules.specs.declared.pieces.Pieces.{Pieces}
 use Rattle.rules.specs.Rules.{unless, bind}
 
 -- the bytes of a block, and of an indirect word
@@ -16,8 +16,8 @@ block = 2048
 abbrev pub word_size : ℕ
 word_size = 4
 
-abbrev pub listed : Pieces → List Piece
-listed table = take table.len table.items
+abbrev pub listed : ArrayVec Piece → List Piece
+listed pieces = pieces.items
 
 -- In what follows `back` says whether the area goes downward.
 

@@ -4,7 +4,7 @@ ghost use Rattle.rules.specs.Rules.{past};
 ghost use Rattle.rules.specs.TakingUp.{reach, is_transfer, aligned, transfer_rules, transfer_at, target, found};
 ghost use Rattle.rules.specs.declared.place.Broken.{Broken as Fault};
 
-use super::place::{Broken, Place};
+use super::place::{Broken, Place, refuse_if};
 use super::storage::{Storage, addressable, read_ccw};
 use format::ccw::Format;
 use format::class::Class;
@@ -14,29 +14,16 @@ use format::refusal::Refusal;
 fn check_address(limit: usize, address: u32) -> Result<(), Broken>
     ensures { (rest : Outcome ℕ Fault) → past result rest ≡ aligned limit address rest }
 {
-    if address % 8 != 0 {
-        return Err(Broken {
-            refusal: Refusal::Misaligned(address),
-            ccw: address,
-        });
-    }
-    if limit < address as usize + 8 {
-        return Err(Broken {
-            refusal: Refusal::CcwOutside(address),
-            ccw: address,
-        });
-    }
-    Ok(())
+    refuse_if(address % 8 != 0, Refusal::Misaligned(address), address)?;
+    let outside = limit < address as usize + 8;
+    refuse_if(outside, Refusal::CcwOutside(address), address)
 }
 
 // Whether a code with the low half of a TIC stands there.
 fn transfers<S: Storage>(storage: &S, format: Format, address: u32) -> bool
     ensures { result ≡ transfer_at format (reader (S.bytes storage.now)) address }
 {
-    match Class::from(read_ccw(storage, format, address).value.code) {
-        Class::TransferInChannel => true,
-        _ => false,
-    }
+    Class::from(read_ccw(storage, format, address).value.code) == Class::TransferInChannel
 }
 
 // Rule 3, and in format 1 that a TIC is 08 and has neither a flag nor a count.
@@ -48,37 +35,15 @@ fn check_transfer<S: Storage>(
 ) -> Result<(), Broken>
     ensures { (rest : Outcome ℕ Fault) → past result rest ≡ transfer_rules format (reader (S.bytes storage.now)) address barred rest }
 {
+    let misplaced = Refusal::TransferMisplaced(address);
     match format {
-        Format::Zero => {
-            if barred {
-                return Err(Broken {
-                    refusal: Refusal::TransferMisplaced(address),
-                    ccw: address,
-                });
-            }
-            Ok(())
-        }
+        Format::Zero => refuse_if(barred, misplaced, address),
         Format::One => {
             let ccw = read_ccw(storage, Format::One, address).value;
-            if ccw.code != 8 {
-                return Err(Broken {
-                    refusal: Refusal::CodeInvalid(address),
-                    ccw: address,
-                });
-            }
-            if barred {
-                return Err(Broken {
-                    refusal: Refusal::TransferMisplaced(address),
-                    ccw: address,
-                });
-            }
-            if ccw.flags.any() || ccw.count != 0 {
-                return Err(Broken {
-                    refusal: Refusal::FlagRefused(address),
-                    ccw: address,
-                });
-            }
-            Ok(())
+            refuse_if(ccw.code != 8, Refusal::CodeInvalid(address), address)?;
+            refuse_if(barred, misplaced, address)?;
+            let burdened = ccw.flags.any() || ccw.count != 0;
+            refuse_if(burdened, Refusal::FlagRefused(address), address)
         }
     }
 }

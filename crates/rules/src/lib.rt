@@ -6,5 +6,6 @@ pub mod area;
 pub mod finding;
 pub mod pieces;
 pub mod place;
+pub mod printing;
 pub mod storage;
 pub mod taking_up;

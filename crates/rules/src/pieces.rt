@@ -1,16 +1,14 @@
-ghost use Rattle.std.specs.Prelude.{◌≤◌};
+use arrayvec::ArrayVec;
+
+// No area has more pieces: a count below 65,536 reaches into at most 33 blocks.
+pub const MOST_PIECES: usize = 33;
 
 // A part of an area inside one block: its first byte in the order of the transfer, and its length.
-#[derive(Clone, Copy)]
+#[derive(Clone, Copy, Debug, Default, PartialEq, Eq)]
 pub struct Piece {
     pub first: usize,
     pub size: usize,
 }
 
 // The pieces of an area, in the order of the transfer.
-#[derive(Clone, Copy)]
-pub struct Pieces {
-    pub items: [Piece; 33],
-    pub len: usize,
-    ghost short: { len ≤ 33 },
-}
+pub type Pieces = ArrayVec<Piece, MOST_PIECES>;

@@ -1,11 +1,11 @@
-ghost use Rattle.std.specs.Prelude.{◌≡◌, ℕ, ◌^◌, ◌≤◌, List, length, slice_index};
+ghost use Rattle.std.specs.Prelude.{◌≡◌, ℕ, ◌+◌, ◌^◌, ◌<◌, ◌≤◌, List, length, slice_index};
 ghost use Rattle.format.specs.Bytes.{reader, word_at};
 ghost use Rattle.format.specs.Layouts.{ccw_at};
 ghost use Rattle.rules.specs.TakingUp.{reach};
 
-use format::big_endian::word;
 use format::ccw::{Ccw, Format};
 use format::placed::Placed;
+use std::array;
 
 // A storage that can be read: a length, and a byte at each address. A byte past the end reads 0.
 pub trait Storage {
@@ -19,7 +19,7 @@ pub trait Storage {
 }
 
 // A storage as it stands in memory.
-#[derive(Clone, Copy)]
+#[derive(Clone, Copy, Debug, PartialEq, Eq)]
 pub struct Plain<'a> {
     pub storage: &'a [u8],
 }
@@ -32,11 +32,7 @@ impl<'a> Storage for Plain<'a> {
     }
 
     fn byte(&self, address: usize) -> u8 {
-        if address < self.storage.len() {
-            self.storage[address]
-        } else {
-            0
-        }
+        self.storage.get(address).copied().unwrap_or(0)
     }
 }
 
@@ -47,25 +43,20 @@ pub(crate) fn addressable<S: Storage>(storage: &S) -> usize
     storage.len().min(0x8000_0000)
 }
 
+// The bytes from an address on.
+fn bytes_at<S: Storage, const N: usize>(storage: &S, address: u32) -> [u8; N]
+    requires { N ≤ 8 }
+    ensures { (i : ℕ) → i < N → slice_index result i ≡ slice_index (S.bytes storage.now) (address + i) }
+{
+    array::from_fn(|i| storage.byte(address as usize + i))
+}
+
 // The CCW at an address.
 pub(crate) fn read_ccw<S: Storage>(storage: &S, format: Format, address: u32) -> Placed<Ccw>
     ensures value { result.value ≡ ccw_at format (reader (S.bytes storage.now)) address }
     ensures place { result.address ≡ address }
 {
-    let a = address as usize;
-    let value = Ccw::decode(
-        format,
-        [
-            storage.byte(a),
-            storage.byte(a + 1),
-            storage.byte(a + 2),
-            storage.byte(a + 3),
-            storage.byte(a + 4),
-            storage.byte(a + 5),
-            storage.byte(a + 6),
-            storage.byte(a + 7),
-        ],
-    );
+    let value = Ccw::decode(format, bytes_at(storage, address));
     Placed { value, address }
 }
 
@@ -74,12 +65,6 @@ pub(crate) fn read_word<S: Storage>(storage: &S, address: u32) -> Placed<u32>
     ensures value { result.value ≡ word_at (reader (S.bytes storage.now)) address }
     ensures place { result.address ≡ address }
 {
-    let a = address as usize;
-    let value = word([
-        storage.byte(a),
-        storage.byte(a + 1),
-        storage.byte(a + 2),
-        storage.byte(a + 3),
-    ]);
+    let value = u32::from_be_bytes(bytes_at(storage, address));
     Placed { value, address }
 }

@@ -1,7 +1,8 @@
 -- The statements of the agreement, put together.
 use Rattle.std.proofs.Common.{◌≡◌, ℕ, ◌+◌, ◌-◌, Bool, List, ◌++◌, length, get_or, drop, Ok, Result, sym, refl, ap, ◌∙◌, subst, inl, arith, length-append, length-drop}
 use Rattle.std.proofs.lemmas.List.{get_or-append_right, get_or-drop, take_at}
-use Rattle.format.specs.declared.ccw.Format.TheVariants.{One}
+use Rattle.format.specs.declared.ccw.Format.{Format}
+use Rattle.format.specs.declared.ccw.Format.TheVariants.{Zero, One}
 use Rattle.format.specs.Bytes.{reader}
 use Rattle.device.specs.Machine.{Machine}
 use Rattle.rules.specs.declared.place.Broken.{Broken}
@@ -10,7 +11,7 @@ use Rattle.rules.specs.TakingUp.{reach, read_up}
 use Rattle.walk.specs.SoundTrails.{cell}
 use Rattle.walk.specs.Walks.{Trail}
 use Rattle.walk.proofs.SoundTrails.{sound_trail}
-use Rattle.channel.specs.Steps.{World}
+use Rattle.channel.specs.Steps.{World, stepped, advanced, halted}
 use Rattle.map.specs.Law.{Lawful}
 use Rattle.map.specs.Places.{place_of}
 use Rattle.map.specs.Views.{guest_bytes, ByPlace}
@@ -92,8 +93,20 @@ module _ (fs : List ℕ) (free : ℕ → Bool) (law : Lawful fs free) where
     unfolding StepsKeep
     all_steps_keep start w host direct k c = steps_keep fs free law start w m k host direct c
 
-    -- two worlds that are known to be the outcome
-    pub together_by : (host direct host' direct' x y : World m) → host' ≡ x → direct' ≡ y → ((start : ℕ) (w : Trail) → Corresponding m fs free start w host direct → Corresponding m fs free start w x y) → Together m fs free host direct host' direct'
+    together_by : (host direct host' direct' x y : World m) → host' ≡ x → direct' ≡ y → ((start : ℕ) (w : Trail) → Corresponding m fs free start w host direct → Corresponding m fs free start w x y) → Together m fs free host direct host' direct'
     unfolding Together
     together_by host direct host' direct' x y p q h start w c =
         subst (λ (z : World m). Corresponding m fs free start w host' z) (sym q) (subst (λ (z : World m). Corresponding m fs free start w z y) (sym p) (h start w c))
+
+    -- two worlds that are known to be the outcome, with the formats of the two programs
+    pub stepped_together : (f f' : Format) (host direct host' direct' : World m) → f ≡ One → f' ≡ Zero → host' ≡ stepped m f host → direct' ≡ stepped m f' direct → Together m fs free host direct host' direct'
+    stepped_together f f' host direct host' direct' a b p q =
+        together_by host direct host' direct' _ _ (p ∙ ap (λ x. stepped m x host) a) (q ∙ ap (λ x. stepped m x direct) b) (λ start w c. step_agrees fs free law start w m host direct c)
+
+    pub advanced_together : (f f' : Format) (k n n' : ℕ) (host direct host' direct' : World m) → f ≡ One → f' ≡ Zero → ◌≡◌ {A = ℕ × World m} (n, host') (advanced m f k host) → ◌≡◌ {A = ℕ × World m} (n', direct') (advanced m f' k direct) → Together m fs free host direct host' direct'
+    advanced_together f f' k n n' host direct host' direct' a b p q =
+        let left : ℕ × World m → World m = λ r. r.1 in
+        together_by host direct host' direct' _ _ (ap left p ∙ ap (λ x. (advanced m x k host).1) a) (ap left q ∙ ap (λ x. (advanced m x k direct).1) b) (λ start w c. (advance_agrees fs free law start w m k host direct c).after)
+
+    pub halted_together : (host direct host' direct' : World m) → host' ≡ halted m host → direct' ≡ halted m direct → Together m fs free host direct host' direct'
+    halted_together host direct host' direct' p q = together_by host direct host' direct' _ _ p q (λ start w c. halt_agrees fs free law start w m host direct c)

@@ -7,12 +7,6 @@ use device::interface::Device;
 use map::interface::Map;
 use walk::own_bytes::OwnBytes;
 
-fn is_clear(own: &OwnBytes, address: usize, size: usize) -> bool
-    ensures { result ≡ not (is_some (touched (extents_in own.now) address size)) }
-{
-    own.touch(address, size).is_none()
-}
-
 // Whether a guest may store these bytes while its program runs: none of them is the program's own.
 pub fn may_store<M: Map, D: Device>(
     map: &M,
@@ -25,13 +19,7 @@ pub fn may_store<M: Map, D: Device>(
     ensures agree { StoresAgree D.machine (M.frames map.now) (M.free map.now) }
     ensures keeps { result ≡ true → StoreKeeps D.machine (M.frames map.now) (M.free map.now) (extents_in own.now) address size }
 {
-    is_clear(own, address, size)
-}
-
-fn is_movable<M: Map>(map: &M, page: usize, frame: u8, has_data: bool) -> bool
-    ensures { result ≡ ((not has_data && nat_lt page (length (M.frames map.now))) && M.free map.now frame) }
-{
-    !has_data && page < map.page_count() && map.is_free(frame)
+    own.touch(address, size).is_none()
 }
 
 // Whether a page may be moved to a frame while a program runs: the program has no data in it, and the map can put it there.
@@ -46,5 +34,5 @@ pub fn may_move<M: Map, D: Device>(
     ensures agree { MovesAgree D.machine (M.frames map.now) (M.free map.now) }
     ensures keeps { result ≡ true → MoveKeeps D.machine (M.frames map.now) (M.free map.now) page frame has_data }
 {
-    is_movable(map, page, frame, has_data)
+    !has_data && page < map.page_count() && map.is_free(frame)
 }

@@ -57,6 +57,12 @@ read_at L b a command t e =
     let r = read_up_ok Zero L b a command t e in
     (ap (λ (x : Cell). x.ccw.address) (sym r.is), ap (λ (x : Cell). x.before) (sym r.is))
 
+-- one cell more
+pub pieces_push : (ts : List Cell) (t : Cell) → pieces_in (ts ++ t ∷ []) ≡ pieces_in ts + length t.pieces
+unfolding pieces_in
+pieces_push [] t = omega arith
+pieces_push (u ∷ us) t = ap (λ n. length u.pieces + n) (pieces_push us t) ∙ omega arith
+
 -- the way from a place on: `rest` are the cells met from it on, `seen` those before
 unfoldable pub Way : ℕ → Reader → List Cell → List Cell → Option ℕ → ℕ → Bool → Option ℕ → Type 0
 Way L b seen [] closes a first command =

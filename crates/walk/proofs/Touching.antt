@@ -1,17 +1,22 @@
 -- Own bytes: what the question answers, extent by extent.
-use Rattle.std.proofs.Common.{◌≡◌, ℕ, ◌+◌, ◌<◌, ◌≤◌, max, Bool, true, false, cond, ◌||◌, ltb, List, [], ◌∷◌, ◌++◌, length, get_or, take, drop, is_some, Some, None, Option, sym, refl, ap, ◌∙◌, subst, inl, inr, append_assoc, arith, length-take}
-use Rattle.std.proofs.lemmas.List.{drop_more, get_or-take}
+use Rattle.std.proofs.Common.{◌≡◌, ℕ, ◌+◌, ◌<◌, ◌≤◌, max, Bool, true, false, cond, ◌||◌, ltb, List, [], ◌∷◌, ◌++◌, map, is_some, Some, None, Option, sym, refl, ap, ◌∙◌, subst, inl, inr, append_assoc, arith}
 use Rattle.std.proofs.lemmas.Bool.{ltb-true, ltb-false, and_parts, and_cases, cases_Bool}
+use Rattle.std.specs.List.{find, list_any}
+use Rattle.std.specs.Option.{option_map}
 use Rattle.walk.specs.declared.own_bytes.Extent.{Extent}
-use Rattle.rules.specs.TakingUp.{Cell}
+use Rattle.rules.specs.TakingUp.{Cell, cell_of}
+use Rattle.rules.specs.declared.place.Taken.{Taken}
 use Rattle.rules.specs.declared.pieces.Piece.{Piece}
 use Rattle.walk.specs.OwnBytes.{ccw_extent, list_extent, extents_of, overlaps, touched, Own, Tells, lowest, any_touched, overwrites, first_overwriting}
 
--- the next entry of a table
-pub next_entry : {X : Type 0} (items : List X) (len i : ℕ) (d : X) → i < len → i < length items → drop i (take len items) ≡ get_or items i d ∷ drop (i + 1) (take len items)
-next_entry items len i d h l =
-    let k : i < length (take len items) = simp length-take (omega arith) in
-    drop_more (take len items) i d k ∙ ap (λ x. x ∷ drop (i + 1) (take len items)) (get_or-take len items i d h)
+-- a look-up that stops at the first element with a property
+looked_up : {X Y : Type 0} (F : List X → Option Y) (p : X → Bool) (g : X → Y) → F [] ≡ None → ((x : X) (xs : List X) → F (x ∷ xs) ≡ cond (p x) (Some (g x)) (F xs)) → (xs : List X) → F xs ≡ option_map g (find p xs)
+looked_up F p g none step [] = none
+looked_up F p g none step (x ∷ xs) = step x xs ∙ go (looked_up F p g none step xs) (p x)
+  where
+    go : F xs ≡ option_map g (find p xs) → (b : Bool) → cond b (Some (g x)) (F xs) ≡ option_map g (cond b (Some x) (find p xs))
+    go later true = refl
+    go later false = later
 
 pub touched_here : (e : Extent) (es : List Extent) (low n : ℕ) → overlaps e low n ≡ true → touched (e ∷ es) low n ≡ Some (max low e.start)
 unfolding touched
@@ -21,9 +26,9 @@ pub touched_later : (e : Extent) (es : List Extent) (low n : ℕ) → overlaps e
 unfolding touched
 touched_later e es low n h = ap (λ x. cond x (Some (max low e.start)) (touched es low n)) h
 
-pub touched_none : (low n : ℕ) → touched [] low n ≡ None
+pub touched_is : (es : List Extent) (low n : ℕ) → touched es low n ≡ option_map (λ (e : Extent). max low e.start) (find (λ e. overlaps e low n) es)
 unfolding touched
-touched_none low n = refl
+touched_is es low n = looked_up (λ xs. touched xs low n) (λ e. overlaps e low n) (λ e. max low e.start) refl (λ _ _. refl) es
 
 apart : (e : Extent) (low n a : ℕ) → overlaps e low n ≡ false → low ≤ a → a < low + n → e.start ≤ a → a < e.start + e.size → ⊥
 apart e low n a h p q r s =
@@ -53,9 +58,6 @@ tells (e ∷ es) low n =
       | inr h ↦ subst (Tells (e ∷ es) low n) (sym (touched_later e es low n h)) (later_tells e es low n (touched es low n) h (tells es low n))
     ]
 
-abbrev pub no_extent : Extent
-no_extent = record { start = 0; size = 0 }
-
 pub extents_none : extents_of [] ≡ []
 unfolding extents_of
 extents_none = refl
@@ -65,20 +67,12 @@ pub extents_more : (xs : List Extent) (t : Cell) (ts : List Cell) → (xs ++ (cc
 unfolding extents_of
 extents_more xs t ts = append_assoc xs (ccw_extent t ∷ list_extent t ∷ []) (extents_of ts)
 
-module _ (es : List Extent) (back : Bool) where
-  pub any_here : (p : Piece) (ps : List Piece) → is_some (touched es (lowest back p) p.size) ≡ true → any_touched es back (p ∷ ps) ≡ true
-  unfolding any_touched
-  any_here p ps h = ap (λ x. x || any_touched es back ps) h
-
-  pub any_later : (p : Piece) (ps : List Piece) → is_some (touched es (lowest back p) p.size) ≡ false → any_touched es back (p ∷ ps) ≡ any_touched es back ps
-  unfolding any_touched
-  any_later p ps h = ap (λ x. x || any_touched es back ps) h
-
-  pub any_none : any_touched es back [] ≡ false
-  unfolding any_touched
-  any_none = refl
-
 module _ (es : List Extent) where
+  pub any_is : (back : Bool) (ps : List Piece) → any_touched es back ps ≡ list_any (λ (p : Piece). is_some (touched es (lowest back p) p.size)) ps
+  unfolding any_touched
+  any_is back [] = refl
+  any_is back (p ∷ ps) = ap (λ x. is_some (touched es (lowest back p) p.size) || x) (any_is back ps)
+
   pub first_here : (t : Cell) (ts : List Cell) → overwrites es t ≡ true → first_overwriting es (t ∷ ts) ≡ Some t.ccw.address
   unfolding first_overwriting
   first_here t ts h = ap (λ x. cond x (Some t.ccw.address) (first_overwriting es ts)) h
@@ -87,9 +81,6 @@ module _ (es : List Extent) where
   unfolding first_overwriting
   first_later t ts h = ap (λ x. cond x (Some t.ccw.address) (first_overwriting es ts)) h
 
-  pub first_none : first_overwriting es [] ≡ None
+  pub first_is : (taken : List Taken) → first_overwriting es (map cell_of taken) ≡ option_map (λ (t : Taken). t.ccw.address) (find (λ t. overwrites es (cell_of t)) taken)
   unfolding first_overwriting
-  first_none = refl
-
-abbrev pub no_piece : Piece
-no_piece = record { first = 0; size = 0 }
+  first_is taken = looked_up (λ ts. first_overwriting es (map cell_of ts)) (λ t. overwrites es (cell_of t)) (λ t. t.ccw.address) refl (λ _ _. refl) taken

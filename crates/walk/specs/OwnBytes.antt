@@ -1,7 +1,7 @@
 -- A program's own bytes. A reader must believe: these are the bytes of every CCW, TIC and indirect word that
 -- the walk met. Behind a CCW that goes on stands the next CCW or a TIC, so sixteen bytes from its address on are
 -- own; behind any other, eight.
-use Rattle.std.specs.Prelude.{ℕ, ◌+◌, ◌-◌, ◌*◌, ◌<◌, ◌≤◌, max, Bool, true, false, cond, not, ◌&&◌, ◌||◌, ◌⊎◌, List, [], ◌∷◌, length, take, is_some, Some, None, Option, nat_lt}
+use Rattle.std.specs.Prelude.{ℕ, ◌+◌, ◌-◌, ◌*◌, ◌<◌, ◌≤◌, max, Bool, true, false, cond, not, ◌&&◌, ◌||◌, ◌⊎◌, List, [], ◌∷◌, length, is_some, Some, None, Option, nat_lt}
 use Rattle.rules.specs.declared.pieces.Piece.{Piece}
 use Rattle.rules.specs.TakingUp.{Cell, backward, reading}
 use Rattle.walk.specs.declared.own_bytes.Extent.{Extent}
@@ -9,7 +9,7 @@ use Rattle.walk.specs.declared.own_bytes.OwnBytes.{OwnBytes}
 use Rattle.walk.specs.Walks.{goes_on}
 
 abbrev pub extents_in : OwnBytes → List Extent
-extents_in own = take own.len own.extents
+extents_in own = own.extents.items
 
 abbrev pub ccw_extent : Cell → Extent
 ccw_extent t = record { start = t.ccw.address; size = cond (goes_on t) 16 8 }

@@ -1,22 +1,24 @@
 -- The walk over a program. A reader must believe: which place follows a CCW, when the walk closes, and the
 -- order in which a place is refused: rules 1 to 3, a place met before, the 65th place, rules 4 to 10, the
 -- 769th word.
-use Rattle.std.specs.Prelude.{ℕ, zero, suc, ◌+◌, ◌^◌, ◌<◌, ◌≤◌, Bool, true, false, cond, ◌&&◌, ◌||◌, List, [], ◌∷◌, ◌++◌, map, length, take, Some, None, Ok, Err, Option, Result, ◌==◌, nat_lt}
+use Rattle.std.specs.Prelude.{ℕ, zero, suc, ◌+◌, ◌^◌, ◌<◌, ◌≤◌, Bool, true, false, cond, ◌&&◌, ◌||◌, List, [], ◌∷◌, ◌++◌, map, length, Some, None, Ok, Err, Option, Result, ◌==◌, nat_lt}
+use Rattle.arrayvec.specs.ArrayVec.{ArrayVec}
 use Rattle.format.specs.declared.ccw.Format.TheVariants.{Zero}
 use Rattle.format.specs.declared.refusal.Refusal.TheVariants.{TooManyPlaces, TooManyWords}
 use Rattle.format.specs.Bytes.{Reader}
 use Rattle.rules.specs.declared.place.Broken.{Broken}
+use Rattle.rules.specs.declared.place.Place.{Place}
+use Rattle.rules.specs.declared.place.Taken.{Taken}
 use Rattle.rules.specs.Rules.{unless, bind}
 use Rattle.rules.specs.Areas.{listed}
 use Rattle.rules.specs.TakingUp.{Cell, cell_of, found, read_up}
-use Rattle.walk.specs.declared.cells.Cells.{Cells}
 use Rattle.walk.specs.declared.cells.Visit.{Visit}
 use Rattle.walk.specs.declared.cells.Visit.TheVariants.{Met, Fresh}
 use Rattle.walk.specs.declared.cells.Walked.{Walked}
 
 -- what a table of cells means
-abbrev pub cells_of : Cells → List Cell
-cells_of table = map cell_of (take table.len table.items)
+abbrev pub cells_of : ArrayVec Taken → List Cell
+cells_of cells = map cell_of cells.items
 
 -- a walk that came to its end
 pub record Trail : Type 0 where
@@ -50,6 +52,10 @@ goes_on t = t.ccw.value.flags.cd || t.ccw.value.flags.cc
 -- the command in force there: kept by CD, none after CC alone
 abbrev pub carried : Cell → Option ℕ
 carried t = cond t.ccw.value.flags.cd (Some t.code) None
+
+-- the place behind a CCW, if it goes on
+abbrev pub behind : Cell → Option Place
+behind t = cond (goes_on t) (Some (record { address = t.ccw.address + 8; first = false; command = carried t })) None
 
 -- there is room for a new CCW, and for its words
 abbrev pub Fits : ℕ → ℕ → Visit → Type 0

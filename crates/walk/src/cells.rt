@@ -1,24 +1,21 @@
-ghost use Rattle.std.specs.Prelude.{◌≤◌};
-
+use arrayvec::ArrayVec;
 use rules::place::Taken;
 
+// The most places of a program.
+pub const MOST_PLACES: usize = 64;
+
 // The CCWs that a walk met, in order.
-#[derive(Clone, Copy)]
-pub struct Cells {
-    pub items: [Taken; 64],
-    pub len: usize,
-    ghost short: { len ≤ 64 },
-}
+pub type Cells = ArrayVec<Taken, MOST_PLACES>;
 
 // A walk that came to its end: its CCWs, and the index of the place at which it closed, if it did.
-#[derive(Clone, Copy)]
+#[derive(Debug, PartialEq, Eq, Drop)]
 pub struct Walked {
     pub cells: Cells,
     pub closes: Option<usize>,
 }
 
-// What stands at a place: one met before, or a CCW.
-#[derive(Clone, Copy)]
+// What stands at a place: one met before, or a CCW. Neither is an error or nothing, so it is no Result and no Option.
+#[derive(Debug, PartialEq, Eq, Drop)]
 pub enum Visit {
     Met(usize),
     Fresh(Taken),

@@ -4,4 +4,5 @@
 
 pub mod cells;
 pub mod own_bytes;
+mod visited;
 pub mod walking;

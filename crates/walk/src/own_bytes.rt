@@ -1,18 +1,19 @@
-ghost use Rattle.std.specs.Prelude.{◌≤◌};
+use arrayvec::ArrayVec;
 
 pub mod asking;
 
+// The most runs of bytes of a program: two for each CCW.
+pub const MOST_EXTENTS: usize = 128;
+
 // A run of bytes that belong to a program.
-#[derive(Clone, Copy)]
+#[derive(Clone, Copy, Debug, Default, PartialEq, Eq)]
 pub struct Extent {
     pub start: u32,
     pub size: u32,
 }
 
 // All bytes of a program: for each CCW its own and those right behind it, and its list.
-#[derive(Clone, Copy)]
+#[derive(Debug, PartialEq, Eq, Drop)]
 pub struct OwnBytes {
-    extents: [Extent; 128],
-    len: usize,
-    ghost short: { len ≤ 128 },
+    extents: ArrayVec<Extent, MOST_EXTENTS>,
 }

@@ -1,4 +1,4 @@
-ghost use Rattle.std.specs.Prelude.{◌≡◌, ℕ, ◌+◌, ◌*◌, ◌^◌, ◌<◌, ◌≤◌, Bool, true, false, List, [], ◌∷◌, ◌++◌, is_some};
+ghost use Rattle.std.specs.Prelude.{◌≡◌, ℕ, ◌+◌, ◌*◌, ◌≤◌, [], ◌∷◌, ◌++◌, length, is_some};
 ghost use Rattle.rules.specs.Areas.{listed};
 ghost use Rattle.rules.specs.TakingUp.{cell_of};
 ghost use Rattle.walk.specs.Walks.{cells_of};
@@ -6,6 +6,7 @@ ghost use Rattle.walk.specs.OwnBytes.{extents_in, ccw_extent, list_extent, exten
 
 use super::super::cells::Cells;
 use super::{Extent, OwnBytes};
+use arrayvec::ArrayVec;
 use format::class::Class;
 use rules::pieces::{Piece, Pieces};
 use rules::place::Taken;
@@ -23,11 +24,10 @@ fn ccw_bytes(taken: &Taken) -> Extent
 fn list_bytes(taken: &Taken) -> Extent
     ensures { result ≡ list_extent (cell_of taken.now) }
 {
-    let words = taken.pieces.items[..taken.pieces.len].len();
     Extent {
         start: taken.ccw.value.address,
         size: if taken.ccw.value.flags.ida {
-            4 * words as u32
+            4 * taken.pieces.len() as u32
         } else {
             0
         },
@@ -42,69 +42,6 @@ fn overlaps(extent: Extent, low: usize, size: usize) -> bool
     (common as u128) < low as u128 + size as u128 && common < start + extent.size as usize
 }
 
-impl OwnBytes {
-    // An own byte among the `size` bytes from `low` on.
-    pub fn touch(&self, low: usize, size: usize) -> Option<usize>
-        ensures is { result ≡ touched (extents_in self.now) low size }
-        ensures tells { Tells (extents_in self.now) low size result }
-    {
-        self.first_touched(low, size)
-    }
-
-    fn first_touched(&self, low: usize, size: usize) -> Option<usize>
-        ensures { result ≡ touched (extents_in self.now) low size }
-    {
-        for i in 0..self.len {
-            let extent = self.extents[i];
-            if overlaps(extent, low, size) {
-                return Some(low.max(extent.start as usize));
-            }
-        }
-        None
-    }
-}
-
-fn push(own: &mut OwnBytes, extent: Extent)
-    requires { own.old.len < 128 }
-    ensures list { extents_in own.new ≡ extents_in own.old ++ extent ∷ [] }
-    ensures len { own.new.len ≡ own.old.len + 1 }
-{
-    own.extents[own.len] = extent;
-    own.len += 1;
-}
-
-fn push_cell(own: &mut OwnBytes, taken: &Taken)
-    requires { own.old.len + 2 ≤ 128 }
-    ensures list { extents_in own.new ≡ extents_in own.old ++ (ccw_extent (cell_of taken.now) ∷ list_extent (cell_of taken.now) ∷ []) }
-    ensures len { own.new.len ≡ own.old.len + 2 }
-{
-    push(own, ccw_bytes(taken));
-    push(own, list_bytes(taken));
-}
-
-// The own bytes of no program.
-pub fn no_bytes() -> OwnBytes
-    ensures list { extents_in result ≡ [] }
-    ensures len { result.len ≡ 0 }
-{
-    OwnBytes {
-        extents: [Extent { start: 0, size: 0 }; 128],
-        len: 0,
-    }
-}
-
-// The own bytes of a program.
-pub fn own_bytes_of(cells: &Cells) -> OwnBytes
-    ensures { extents_in result ≡ extents_of (cells_of cells.now) }
-{
-    let mut own = no_bytes();
-    for i in 0..cells.len {
-        let taken = cells.items[i];
-        push_cell(&mut own, &taken);
-    }
-    own
-}
-
 fn lowest_byte(backward: bool, piece: Piece) -> usize
     ensures { result ≡ lowest backward piece }
 {
@@ -115,39 +52,72 @@ fn lowest_byte(backward: bool, piece: Piece) -> usize
     }
 }
 
-fn any_touches(own: &OwnBytes, backward: bool, pieces: &Pieces) -> bool
-    ensures { result ≡ any_touched (extents_in own.now) backward (listed pieces.now) }
-{
-    for i in 0..pieces.len {
-        let piece = pieces.items[i];
-        if own
-            .touch(lowest_byte(backward, piece), piece.size)
-            .is_some()
-        {
-            return true;
+impl OwnBytes {
+    // The own bytes of no program.
+    pub fn none() -> OwnBytes
+        ensures { extents_in result ≡ [] }
+    {
+        OwnBytes {
+            extents: ArrayVec::new(),
         }
     }
-    false
+
+    // An own byte among the `size` bytes from `low` on.
+    pub fn touch(&self, low: usize, size: usize) -> Option<usize>
+        ensures is { result ≡ touched (extents_in self.now) low size }
+        ensures tells { Tells (extents_in self.now) low size result }
+    {
+        self.extents
+            .iter()
+            .find(|extent| overlaps(**extent, low, size))
+            .map(|extent| low.max(extent.start as usize))
+    }
+
+    fn push_cell(&mut self, taken: &Taken)
+        requires { length (extents_in self.old) + 2 ≤ 128 }
+        ensures list { extents_in self.new ≡ extents_in self.old ++ (ccw_extent (cell_of taken.now) ∷ list_extent (cell_of taken.now) ∷ []) }
+        ensures len { length (extents_in self.new) ≡ length (extents_in self.old) + 2 }
+    {
+        self.extents.push(ccw_bytes(taken));
+        self.extents.push(list_bytes(taken));
+    }
+
+    fn any_touches(&self, backward: bool, pieces: &Pieces) -> bool
+        ensures { result ≡ any_touched (extents_in self.now) backward (listed pieces.now) }
+    {
+        pieces.iter().any(|piece| {
+            self.touch(lowest_byte(backward, *piece), piece.size)
+                .is_some()
+        })
+    }
+
+    fn overwritten_by(&self, taken: &Taken) -> bool
+        ensures { result ≡ overwrites (extents_in self.now) (cell_of taken.now) }
+    {
+        let class = Class::from(taken.code);
+        class.reads()
+            && !taken.ccw.value.flags.skip
+            && self.any_touches(class.backward(), &taken.pieces)
+    }
 }
 
-fn overwrites_own(own: &OwnBytes, taken: &Taken) -> bool
-    ensures { result ≡ overwrites (extents_in own.now) (cell_of taken.now) }
+// The own bytes of a program.
+pub fn own_bytes_of(cells: &Cells) -> OwnBytes
+    ensures { extents_in result ≡ extents_of (cells_of cells.now) }
 {
-    let class = Class::from(taken.code);
-    class.reads()
-        && !taken.ccw.value.flags.skip
-        && any_touches(own, class.backward(), &taken.pieces)
+    let mut own = OwnBytes::none();
+    for taken in cells.iter() {
+        own.push_cell(taken);
+    }
+    own
 }
 
 // The first CCW, in the order of the walk, that reads over the program itself.
 pub fn first_overwriting_ccw(own: &OwnBytes, cells: &Cells) -> Option<u32>
     ensures { result ≡ first_overwriting (extents_in own.now) (cells_of cells.now) }
 {
-    for i in 0..cells.len {
-        let taken = cells.items[i];
-        if overwrites_own(own, &taken) {
-            return Some(taken.ccw.address);
-        }
-    }
-    None
+    cells
+        .iter()
+        .find(|taken| own.overwritten_by(taken))
+        .map(|taken| taken.ccw.address)
 }

@@ -1,18 +1,13 @@
-use Rattle.std.proofs.Common.{sym, ◌∙◌}
-use Rattle.walk.specs.OwnBytes.{extents_in}
+use Rattle.std.proofs.Common.{◌≡◌, not, is_some, sym, ◌∙◌, rules}
+use Rattle.walk.specs.OwnBytes.{extents_in, touched}
 use Rattle.agree.proofs.Staying.{stores_agree, store_keeps}
 use Rattle.agree.proofs.meanwhile.may_store.Goals as goal
 
-pub returns : goal.returns
-returns g c =
-    let map = c.args.map.now in
-    let fs = g.M.Map.frames map in
-    let free = g.M.Map.free map in
-    let law = g.met.M.Map.lawful map in
-    let m = g.D.Device.machine in
+pub returns-clause-agree : goal.returns-clause-agree
+returns-clause-agree g c = stores_agree _ _ (g.met.M.Map.lawful _) _
+
+pub returns-clause-keeps : goal.returns-clause-keeps
+returns-clause-keeps g c =
     let es = extents_in c.args.own.now in
-    record {
-      is = c.is_clear.ensures;
-      agree = stores_agree fs free law m;
-      keeps = λ allowed. store_keeps fs free law m es c.args.address c.args.size (sym c.is_clear.ensures ∙ allowed);
-    }
+    let is : c.is_none.result ≡ not (is_some (touched es c.args.address c.args.size)) = search rules in
+    λ allowed. store_keeps _ _ (g.met.M.Map.lawful _) _ es c.args.address c.args.size (sym is ∙ allowed)

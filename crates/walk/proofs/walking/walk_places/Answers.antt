@@ -1,70 +1,45 @@
-use Rattle.std.proofs.Common.{◌≡◌, suc, ◌+◌, ◌-◌, false, [], ◌∷◌, ◌++◌, length, None, Ok, sym, ap, ◌∙◌, subst, arith}
+use Rattle.std.proofs.Common.{Ok, sym, ap, ◌∙◌}
 use Rattle.std.proofs.lemmas.Result.{err_from_is_err_and}
 use Rattle.format.specs.Bytes.{reader}
 use Rattle.rules.specs.TakingUp.{reach, cell_of}
-use Rattle.walk.specs.declared.cells.Visit.TheVariants.{Fresh}
-use Rattle.walk.specs.Walks.{cells_of, walk, seen_of, Fits}
-use Rattle.walk.proofs.Trails.{with_cells, place_on, place_last, place_met, place_off}
+use Rattle.walk.specs.Walks.{cells_of, seen_of}
+use Rattle.walk.proofs.Trails.{place_on, place_last, place_met, place_off, behind_some, behind_none}
 use Rattle.walk.proofs.walking.walk_places.Goals as goal
+use Rattle.walk.proofs.walking.walk_places.Goals.{in-Met, in-Fresh+in-None}
 
 pub returns-in_err-index : goal.returns-in_err-index
 returns-in_err-index g c =
     let st = g.S.Storage.bytes c.args.storage.now in
-    let l = c.walk in
-    let p = l.place in
-    let cs = cells_of l.cells in
-    let short = l.cells.short in
-    let rounds : 65 - l.cells.len ≡ suc (64 - l.cells.len) = omega arith in
-    let e = c.in_err-index.field-0.0 in
+    let visited = c.walk.visited in
+    let p = c.walk.place in
     let r = err_from_is_err_and c.from_residual.result c.from_residual.ensures.1 in
     rw (r.1, r.2) (
-    sym (place_off (64 - l.cells.len) (reach st) (reader st) cs cs l.words p.address p.first p.command e c.in_err-index.ensures.is)
-    ∙ ap (λ k. with_cells cs (walk k (reach st) (reader st) cs l.words p.address p.first p.command)) (sym rounds)
-    ∙ l.invariant.0)
-
-pub returns-in-Met : goal.returns-in-Met
-returns-in-Met g c =
-    let st = g.S.Storage.bytes c.args.storage.now in
-    let l = c.walk in
-    let p = l.place in
-    let cs = cells_of l.cells in
-    let short = l.cells.short in
-    let rounds : 65 - l.cells.len ≡ suc (64 - l.cells.len) = omega arith in
-    sym (place_met (64 - l.cells.len) (reach st) (reader st) cs cs l.words p.address p.first p.command c.in-Met.index (ap (λ v. Ok (seen_of v)) (sym c.in-Met.is) ∙ c.in_ok-index.ensures.is))
-    ∙ ap (λ k. with_cells cs (walk k (reach st) (reader st) cs l.words p.address p.first p.command)) (sym rounds)
-    ∙ l.invariant.0
-
-pub returns-then-not-has_next : goal.returns-then-not-has_next
-returns-then-not-has_next g c =
-    let st = g.S.Storage.bytes c.args.storage.now in
-    let l = c.walk in
-    let p = l.place in
-    let cs = cells_of l.cells in
-    let short = l.cells.short in
-    let rounds : 65 - l.cells.len ≡ suc (64 - l.cells.len) = omega arith in
-    let t = cell_of c.in-Fresh.taken in
-    ap (λ x. Ok (record { cells = x; closes = None })) c.push.ensures.list
-    ∙ sym (place_last (64 - l.cells.len) (reach st) (reader st) cs cs l.words p.address p.first p.command t (ap (λ v. Ok (seen_of v)) (sym c.in-Fresh.is) ∙ c.in_ok-index.ensures.is) (sym c.has_next.ensures ∙ c.if-not-has_next.true))
-    ∙ ap (λ k. with_cells cs (walk k (reach st) (reader st) cs l.words p.address p.first p.command)) (sym rounds)
-    ∙ l.invariant.0
+    sym (place_off (reach st) (reader st) (cells_of visited.cells) visited.words p.address p.first p.command visited.few c.in_err-index.field-0.0 c.in_err-index.ensures.is)
+    ∙ c.walk.invariant)
 
 pub walk-preserved : goal.walk-preserved
 walk-preserved g c =
     let st = g.S.Storage.bytes c.args.storage.now in
-    let l = c.walk in
-    let p = l.place in
-    let cs = cells_of l.cells in
-    let short = l.cells.short in
-    let fits : Fits l.cells.len l.words (Fresh c.in-Fresh.taken) = subst (Fits l.cells.len l.words) c.in-Fresh.is c.in_ok-index.ensures.fits in
+    let visited = c.walk.visited in
+    let p = c.walk.place in
     let t = cell_of c.in-Fresh.taken in
-    let rounds : 65 - l.cells.len ≡ suc (64 - l.cells.len) = omega arith in
-    let less : 65 - c.push.new.cells.len ≡ 64 - l.cells.len = omega (arith, c.push.ensures.len) in (
-      ap (λ k. with_cells (cells_of c.push.new.cells) (walk k (reach st) (reader st) (cells_of c.push.new.cells) (l.words + c.piece_count-words.result) (t.ccw.address + 8) false c.command_after.result)) less
-          ∙ ap (λ y. with_cells y (walk (64 - l.cells.len) (reach st) (reader st) y (l.words + c.piece_count-words.result) (t.ccw.address + 8) false c.command_after.result)) c.push.ensures.list
-          ∙ ap (λ j. with_cells (cs ++ t ∷ []) (walk (64 - l.cells.len) (reach st) (reader st) (cs ++ t ∷ []) (l.words + j) (t.ccw.address + 8) false c.command_after.result)) c.piece_count-words.ensures.is
-          ∙ ap (λ q. with_cells (cs ++ t ∷ []) (walk (64 - l.cells.len) (reach st) (reader st) (cs ++ t ∷ []) (l.words + length t.pieces) (t.ccw.address + 8) false q)) c.command_after.ensures
-          ∙ sym (place_on (64 - l.cells.len) (reach st) (reader st) cs cs l.words p.address p.first p.command t (ap (λ v. Ok (seen_of v)) (sym c.in-Fresh.is) ∙ c.in_ok-index.ensures.is) (sym c.has_next.ensures ∙ c.if-not-has_next.false))
-          ∙ ap (λ k. with_cells cs (walk k (reach st) (reader st) cs l.words p.address p.first p.command)) (sym rounds)
-          ∙ l.invariant.0,
-      omega (arith, fits, c.piece_count-words.ensures.is),
-    )
+    let next = behind_some t c.in-Some.behind (sym c.in-Some.is ∙ c.place_behind-next.ensures) in
+    rw (next.1, c.push.ensures.cells, c.push.ensures.words) (
+    sym (place_on (reach st) (reader st) (cells_of visited.cells) visited.words p.address p.first p.command visited.few t (ap (λ v. Ok (seen_of v)) (sym c.in-Fresh.is) ∙ c.in_ok-index.ensures.is) next.0)
+    ∙ c.walk.invariant)
+
+pub returns : goal.returns
+returns g c =
+    let st = g.S.Storage.bytes c.args.storage.now in
+    let visited = c.walk.visited in
+    let p = c.walk.place in
+    elim c.match-branch-2.branch [
+      | in-Met w ↦ rw (w.visited-is, w.closes-is) (
+          sym (place_met (reach st) (reader st) (cells_of visited.cells) visited.words p.address p.first p.command visited.few w.in-Met.index (ap (λ v. Ok (seen_of v)) (sym w.in-Met.is) ∙ c.in_ok-index.ensures.is))
+          ∙ c.walk.invariant)
+      | in-Fresh+in-None w ↦
+          let t = cell_of w.in-Fresh.taken in
+          rw (w.visited-is, w.closes-is, w.push.ensures.cells) (
+          sym (place_last (reach st) (reader st) (cells_of visited.cells) visited.words p.address p.first p.command visited.few t (ap (λ v. Ok (seen_of v)) (sym w.in-Fresh.is) ∙ c.in_ok-index.ensures.is) (behind_none t (sym w.in-None.is ∙ w.place_behind-next.ensures)))
+          ∙ c.walk.invariant)
+    ]

@@ -1,24 +1,24 @@
-use Rattle.std.proofs.Common.{ℕ, ap}
-use Rattle.channel.specs.Steps.{World}
-use Rattle.agree.proofs.Steps.{advance_agrees}
-use Rattle.agree.proofs.Whole.{advances_agree, never_checked, all_steps_keep, together_by}
+use Rattle.agree.specs.Correspondence.{world}
+use Rattle.agree.proofs.Whole.{advances_agree, never_checked, all_steps_keep, advanced_together}
 use Rattle.agree.proofs.twin.Twin.advance.Goals as goal
 
-pub returns : goal.returns
-returns g c =
-    let map = c.args.map.now in
-    let fs = g.M.Map.frames map in
-    let free = g.M.Map.free map in
-    let law = g.met.M.Map.lawful map in
-    let m = g.D.Device.machine in
-    let e = c.advance_sides.ensures in
-    let left : ℕ × World m → World m = λ r. r.1 in
-    record {
-      host = e.host;
-      direct = e.direct;
-      ended = e.ended;
-      agree = advances_agree fs free law m;
-      unchecked = never_checked fs free law m;
-      keep = all_steps_keep fs free law m;
-      together = together_by fs free law m _ _ _ _ _ _ (ap left e.host) (ap left e.direct) (λ start w k. (advance_agrees fs free law start w m c.args.limit _ _ k).after);
-    }
+pub returns-clause-agree : goal.returns-clause-agree
+returns-clause-agree g c = advances_agree _ _ (g.met.M.Map.lawful _) _
+
+pub returns-clause-unchecked : goal.returns-clause-unchecked
+returns-clause-unchecked g c = never_checked _ _ (g.met.M.Map.lawful _) _
+
+pub returns-clause-keep : goal.returns-clause-keep
+returns-clause-keep g c = all_steps_keep _ _ (g.met.M.Map.lawful _) _
+
+pub returns-clause-together : goal.returns-clause-together
+returns-clause-together g c =
+    let on = world g.D.Device.machine in
+    let state = g.D.Device.state in
+    let formats = c.args.self.now.formats in
+    advanced_together _ _ (g.met.M.Map.lawful _) _ _ _ c.args.limit _ _
+    (on c.args.host.now (state c.args.host_device.now) c.args.self.now.host.run)
+    (on c.args.direct.now (state c.args.direct_device.now) c.args.self.now.direct.run)
+    (on c.advance.new.storage (state c.advance.new.device) c.advance.new.self.run)
+    (on c.advance-2.new.storage (state c.advance-2.new.device) c.advance-2.new.self.run)
+    formats.0 formats.1 c.advance.ensures.world c.advance-2.ensures.world

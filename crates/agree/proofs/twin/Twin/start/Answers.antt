@@ -1,11 +1,8 @@
 use Rattle.agree.proofs.Whole.{cells_agree, starts_agree}
 use Rattle.agree.proofs.twin.Twin.start.Goals as goal
 
-pub returns : goal.returns
-returns g c =
-    let map = c.args.map.now in
-    let fs = g.M.Map.frames map in
-    let free = g.M.Map.free map in
-    let law = g.met.M.Map.lawful map in
-    let m = g.D.Device.machine in
-    record { is = c.at_start.ensures; cells = cells_agree fs free law; agree = starts_agree fs free law m }
+pub returns-clause-cells : goal.returns-clause-cells
+returns-clause-cells g c = cells_agree _ _ (g.met.M.Map.lawful _)
+
+pub returns-clause-agree : goal.returns-clause-agree
+returns-clause-agree g c = starts_agree _ _ (g.met.M.Map.lawful _) _

@@ -1,18 +1,18 @@
-use Rattle.agree.proofs.Steps.{step_agrees}
-use Rattle.agree.proofs.Whole.{one_step_agrees, together_by}
+use Rattle.agree.specs.Correspondence.{world}
+use Rattle.agree.proofs.Whole.{one_step_agrees, stepped_together}
 use Rattle.agree.proofs.twin.Twin.step.Goals as goal
 
-pub returns : goal.returns
-returns g c =
-    let map = c.args.map.now in
-    let fs = g.M.Map.frames map in
-    let free = g.M.Map.free map in
-    let law = g.met.M.Map.lawful map in
-    let m = g.D.Device.machine in
-    let e = c.step_sides.ensures in
-    record {
-      host = e.host;
-      direct = e.direct;
-      agree = one_step_agrees fs free law m;
-      together = together_by fs free law m _ _ _ _ _ _ e.host e.direct (λ start w k. step_agrees fs free law start w m _ _ k);
-    }
+pub returns-clause-agree : goal.returns-clause-agree
+returns-clause-agree g c = one_step_agrees _ _ (g.met.M.Map.lawful _) _
+
+pub returns-clause-together : goal.returns-clause-together
+returns-clause-together g c =
+    let on = world g.D.Device.machine in
+    let state = g.D.Device.state in
+    let formats = c.args.self.now.formats in
+    stepped_together _ _ (g.met.M.Map.lawful _) _ _ _
+    (on c.args.host.now (state c.args.host_device.now) c.args.self.now.host.run)
+    (on c.args.direct.now (state c.args.direct_device.now) c.args.self.now.direct.run)
+    (on c.step.new.storage (state c.step.new.device) c.step.new.self.run)
+    (on c.step-2.new.storage (state c.step-2.new.device) c.step-2.new.self.run)
+    formats.0 formats.1 c.step.ensures.world c.step-2.ensures.world

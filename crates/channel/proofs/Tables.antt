@@ -32,9 +32,6 @@ pub record Rest (k : Bool) (L : ℕ) (ps : List Piece) : Type 0 where
   pub left : ℕ
   pub shaped : Shaped k L later left ps
 
-pub rest_whole : (k : Bool) (L left : ℕ) (ps : List Piece) → Shaped k L false left ps → Rest k L ps
-rest_whole k L left ps s = record { later = false; left = left; shaped = s }
-
 -- the next of them, and those behind it
 pub rest_next : (k : Bool) (L : ℕ) (p : Piece) (ps : List Piece) → Rest k L (p ∷ ps) → (outside k L p.first p.size ≡ false) × (p.size ≤ 2048) × Rest k L ps
 unfolding Shaped

@@ -85,6 +85,7 @@ impl DeviceModel for TapeModel {
     fn give(&mut self, buffer: &mut [u8]) -> usize {
         match self.phase {
             Phase::Reading(direction, gone) => {
+                // A read opens only where a block is left.
                 let block = self.next_block(direction).unwrap_or(&[]);
                 let n = hand_out_in(direction, buffer, block, gone);
                 self.phase = Phase::Reading(direction, gone + n);

@@ -1,16 +1,18 @@
 -- The console keeps the laws of a model. A reader must believe nothing here: it is all proof.
-use Rattle.std.specs.Prelude.{◌≡◌, ℕ, ◌+◌, ◌-◌, ◌≤◌, Bool, true, false, cond, List, [], ◌++◌, length, take, ◌==◌, refl}
+use Rattle.std.specs.Prelude.{◌≡◌, ℕ, ◌+◌, ◌-◌, ◌≤◌, Bool, true, false, cond, List, [], ◌++◌, length, take, Ok, Err, Result, ◌==◌, refl}
 use Rattle.std.proofs.Common.{sym, ap, subst, ◌∙◌, arith, length-append, length-take}
 use Rattle.std.proofs.Math.Seq.{take-nil}
 use Rattle.std.proofs.lemmas.List.{append-nil, append_assoc, drop-drop, take-take}
 use Rattle.format.specs.Classes.{class_of, reads_storage}
+use Rattle.device.specs.declared.interface.Begun.{Begun}
+use Rattle.device.specs.declared.interface.Begun.TheVariants.{Open}
 use Rattle.device.specs.Machine.{shut, taking, due, room, less_given, less_taken}
-use Rattle.unit.specs.declared.model.Started.{Started}
-use Rattle.unit.specs.declared.model.Started.TheVariants.{Unknown, Fault, Open}
+use Rattle.unit.specs.declared.model.Fault.{Fault}
+use Rattle.unit.specs.Core.{unknown_command}
 use Rattle.unit.specs.Lemmas.{class_at, drop_past, take_two}
 use Rattle.unit.specs.CoreLaws.{CoreLaws, OpenedOwn}
 use Rattle.console.specs.ConsoleState.{ConsoleState, Command, none, printing, reading_line}
-use Rattle.console.specs.ConsoleMachine.{console_core, with_open, with_paper, paper_left, begin_write, begin_read, begin_own, pending_during, given_during, accepted_during}
+use Rattle.console.specs.ConsoleMachine.{console_core, with_open, with_paper, paper_left, nothing_left, begin_write, begin_read, begin_own, pending_during, given_during, accepted_during}
 
 shut_is_none : (c : Command) (printed : ℕ) → pending_during c printed ≡ shut → c ≡ none
 shut_is_none none printed h = refl
@@ -18,24 +20,24 @@ shut_is_none printing printed h = cc
 shut_is_none (reading_line bytes) printed h = cc
 
 -- the answer fits what is pending after it
-FitsPending : Bool → Started × ConsoleState → Type 0
+FitsPending : Bool → Result Begun Fault × ConsoleState → Type 0
 FitsPending reads x = OpenedOwn reads x.0 (pending_during x.1.command (length x.1.paper))
 
 stays_shut : (s : ConsoleState) → s.command ≡ none → pending_during s.command (length s.paper) ≡ shut
 stays_shut s e = ap (λ c. pending_during c (length s.paper)) e
 
-write_fits : (s : ConsoleState) (b : Bool) → s.command ≡ none → FitsPending false (cond b (Fault 0x0E 0x40, s) (Open 0 (paper_left (length s.paper)), with_open printing s))
+write_fits : (s : ConsoleState) (b : Bool) → s.command ≡ none → FitsPending false (cond b (Err nothing_left, s) (Ok (Open 0 (paper_left (length s.paper))), with_open printing s))
 unfolding FitsPending
 write_fits s true e = stays_shut s e
 write_fits s false e = refl
 
-read_fits : (s : ConsoleState) (b : Bool) → s.command ≡ none → FitsPending true (cond b (Fault 0x0E 0x40, s) (Open (length s.line) (length s.line), with_open (reading_line s.line) s))
+read_fits : (s : ConsoleState) (b : Bool) → s.command ≡ none → FitsPending true (cond b (Err nothing_left, s) (Ok (Open (length s.line) (length s.line)), with_open (reading_line s.line) s))
 unfolding FitsPending
 read_fits s true e = stays_shut s e
 read_fits s false e = (refl, (s.line, refl, refl))
 
 -- by the tests for the codes 09 and 0A
-begin_fits : (reads nine ten : Bool) (s : ConsoleState) → (nine ≡ true → reads ≡ false) → (ten ≡ true → reads ≡ true) → s.command ≡ none → FitsPending reads (cond nine (begin_write s) (cond ten (begin_read s) (Unknown, s)))
+begin_fits : (reads nine ten : Bool) (s : ConsoleState) → (nine ≡ true → reads ≡ false) → (ten ≡ true → reads ≡ true) → s.command ≡ none → FitsPending reads (cond nine (begin_write s) (cond ten (begin_read s) (Err unknown_command, s)))
 unfolding FitsPending
 begin_fits reads true ten s g h e =
     subst (λ (b : Bool). FitsPending b (begin_write s)) (sym (g refl)) (write_fits s (paper_left (length s.paper) == 0) e)

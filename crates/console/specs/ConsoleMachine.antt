@@ -1,12 +1,11 @@
 -- The console's commands. A reader must believe: paper of 2,048 bytes, and for each code the answer and
 -- the state after it, are as here; what every device shares is added by `unit_machine`.
-use Rattle.std.specs.Prelude.{ℕ, ◌-◌, cond, List, [], ◌++◌, length, take, drop, ◌==◌}
+use Rattle.std.specs.Prelude.{ℕ, ◌-◌, cond, List, [], ◌++◌, length, take, drop, Ok, Err, Result, ◌==◌}
+use Rattle.device.specs.declared.interface.Begun.{Begun}
+use Rattle.device.specs.declared.interface.Begun.TheVariants.{Open}
 use Rattle.device.specs.Machine.{Machine, Pending, shut, giving, taking}
-use Rattle.unit.specs.declared.model.Started.{Started}
-use Rattle.unit.specs.declared.model.Started.TheVariants.{Unknown, Fault, Open}
-use Rattle.unit.specs.declared.model.Finished.{Finished}
-use Rattle.unit.specs.declared.model.Finished.TheVariants.{Done}
-use Rattle.unit.specs.Core.{Core}
+use Rattle.unit.specs.declared.model.Fault.{Fault}
+use Rattle.unit.specs.Core.{Core, unknown_command}
 use Rattle.unit.specs.UnitMachine.{UnitState, unit_machine, unit_at_first}
 use Rattle.console.specs.ConsoleState.{ConsoleState, Command, none, printing, reading_line}
 
@@ -20,19 +19,23 @@ with_paper printed s = record { paper = printed; line = s.line; command = s.comm
 abbrev pub paper_left : ℕ → ℕ
 paper_left printed = 2048 - printed
 
+-- no paper or no line is left: status 0E and sense 40
+abbrev pub nothing_left : Fault
+nothing_left = record { status = 0x0E; sense = 0x40 }
+
 -- 09: opens for as much as there is paper left; with none left, status 0E and sense 40
-abbrev pub begin_write : ConsoleState → Started × ConsoleState
+abbrev pub begin_write : ConsoleState → Result Begun Fault × ConsoleState
 begin_write s =
-    cond (paper_left (length s.paper) == 0) (Fault 0x0E 0x40, s) (Open 0 (paper_left (length s.paper)), with_open printing s)
+    cond (paper_left (length s.paper) == 0) (Err nothing_left, s) (Ok (Open 0 (paper_left (length s.paper))), with_open printing s)
 
 -- 0A: opens with the waiting line; with an empty line, status 0E and sense 40
-abbrev pub begin_read : ConsoleState → Started × ConsoleState
+abbrev pub begin_read : ConsoleState → Result Begun Fault × ConsoleState
 begin_read s =
-    cond (length s.line == 0) (Fault 0x0E 0x40, s) (Open (length s.line) (length s.line), with_open (reading_line s.line) s)
+    cond (length s.line == 0) (Err nothing_left, s) (Ok (Open (length s.line) (length s.line)), with_open (reading_line s.line) s)
 
 -- the console has no other code of its own
-abbrev pub begin_own : ℕ → ConsoleState → Started × ConsoleState
-begin_own code s = cond (code == 0x09) (begin_write s) (cond (code == 0x0A) (begin_read s) (Unknown, s))
+abbrev pub begin_own : ℕ → ConsoleState → Result Begun Fault × ConsoleState
+begin_own code s = cond (code == 0x09) (begin_write s) (cond (code == 0x0A) (begin_read s) (Err unknown_command, s))
 
 -- what the open command has still to move, once so many bytes are printed
 abbrev pub pending_during : Command → ℕ → Pending
@@ -59,8 +62,8 @@ line_after printing waiting = waiting
 line_after (reading_line bytes) waiting = []
 
 -- the end: status 0C
-abbrev pub end_own : ConsoleState → Finished × ConsoleState
-end_own s = (Done 0x0C, record { paper = s.paper; line = line_after s.command s.line; command = none })
+abbrev pub end_own : ConsoleState → Result ℕ Fault × ConsoleState
+end_own s = (Ok 0x0C, record { paper = s.paper; line = line_after s.command s.line; command = none })
 
 abbrev pub console_core : Core
 console_core = record {

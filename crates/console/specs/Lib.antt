@@ -1,4 +1,5 @@
 pub mod Handing
+pub mod Codes
 pub mod ConsoleState
 pub mod ConsoleMachine
 pub mod ConsoleLaws

@@ -1,6 +1,6 @@
--- What the console's fields mean. A reader must believe: the bytes past a size do not count, and an open
+-- What the console's fields mean. A reader must believe: paper and line are what they hold, and an open
 -- reading command has still to hand out what lies past the bytes handed out.
-use Rattle.std.specs.Prelude.{ℕ, List, take, drop}
+use Rattle.std.specs.Prelude.{ℕ, List, drop}
 use Rattle.unit.specs.declared.state.Unit.{Unit as Device}
 use Rattle.unit.specs.UnitMachine.{UnitState}
 use Rattle.unit.specs.Meaning.{unit_meaning}
@@ -17,9 +17,9 @@ command_of (ReadingLine gone) waiting = reading_line (drop gone waiting)
 
 abbrev pub model_meaning : ConsoleModel → ConsoleState
 model_meaning m = record {
-  paper = take m.printed m.paper;
-  line = take m.line_size m.line;
-  command = command_of m.phase (take m.line_size m.line);
+  paper = m.paper.items;
+  line = m.line.items;
+  command = command_of m.phase m.line.items;
 }
 
 -- the whole device

@@ -1,6 +1,8 @@
 ghost use Rattle.std.specs.Prelude.{◌≤◌};
-ghost use Rattle.console.specs.Handing.{handed, to_hand};
+ghost use Rattle.arrayvec.specs.ArrayVec.{array_vec_len};
+ghost use Rattle.console.specs.Handing.{handed};
 
+use arrayvec::ArrayVec;
 use unit::state::Unit;
 
 pub mod access;
@@ -13,24 +15,20 @@ const PAPER: usize = 2048;
 const LINE: usize = 256;
 
 // What the open command does; a number is how many bytes it has handed out.
-#[derive(Clone, Copy)]
+#[derive(Clone, Copy, Debug, PartialEq, Eq)]
 enum Phase {
     Idle,
     Printing,
     ReadingLine(usize),
 }
 
-// What is a console's own. The bytes of `paper` past `printed`, and of `line` past `line_size`, do not count.
+// What is a console's own: what has been printed, the line that waits, and the open command.
 #[derive(Drop)]
 pub struct ConsoleModel {
-    paper: [u8; PAPER],
-    printed: usize,
-    line: [u8; LINE],
-    line_size: usize,
+    paper: ArrayVec<u8, PAPER>,
+    line: ArrayVec<u8, LINE>,
     phase: Phase,
-    ghost paper_fits: { printed ≤ 2048 },
-    ghost line_fits: { line_size ≤ 256 },
-    ghost within: { handed phase ≤ to_hand phase line_size },
+    ghost within: { handed phase ≤ array_vec_len line },
 }
 
 // The whole device.

@@ -2,7 +2,8 @@
 use Rattle.std.proofs.Common.{◌≡◌, ℕ, ◌+◌, ◌≤◌, List, ◌++◌, length, take, drop, replicate, sym, refl, ap, ◌∙◌, arith, length-append, length-drop, length-take}
 use Rattle.std.proofs.lemmas.List.{append_assoc, drop_at, drop-take, length-take-le, take-append-le, take_at}
 use Rattle.std.proofs.lemmas.Slice.{take-put_mid_below, drop-put_mid}
-use Rattle.disk.specs.Blocks.{size_of, address_of, bytes_at, blocks_at, block_at, put_at}
+use Rattle.format.specs.Laying.{put_at}
+use Rattle.disk.specs.Blocks.{size_of, address_of, bytes_at, blocks_at, block_at}
 
 pub bytes_within : (address n : ℕ) (store : List ℕ) → address + n ≤ length store → take n (drop address store) ≡ bytes_at address n store
 bytes_within address n store h =

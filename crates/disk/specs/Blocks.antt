@@ -1,6 +1,6 @@
 -- Where blocks lie. A reader must believe: a store is 64 blocks of 512 bytes, one after the other, and its
 -- bytes are a list from address 0 on.
-use Rattle.std.specs.Prelude.{ℕ, ◌+◌, ◌*◌, Bool, false, cond, List, ◌++◌, length, take, drop, replicate, ◌==◌, nat_le}
+use Rattle.std.specs.Prelude.{ℕ, ◌+◌, ◌*◌, Bool, false, cond, List, ◌++◌, take, drop, replicate, ◌==◌, nat_le}
 
 -- how many bytes so many blocks have
 abbrev pub size_of : ℕ → ℕ
@@ -25,7 +25,3 @@ blocks_at start blocks store = bytes_at (address_of start) (size_of blocks) stor
 -- the bytes of one block
 abbrev pub block_at : ℕ → List ℕ → List ℕ
 block_at block store = blocks_at block 1 store
-
--- the store with these bytes at an address, and its other bytes as before
-abbrev pub put_at : ℕ → List ℕ → List ℕ → List ℕ
-put_at address written store = take address store ++ (written ++ drop (length written) (drop address store))

@@ -1,16 +1,18 @@
 -- The disk keeps the laws of a model. A reader must believe nothing here: it is all proof.
-use Rattle.std.specs.Prelude.{◌≡◌, ℕ, zero, suc, ◌+◌, ◌-◌, ◌≤◌, Bool, true, false, cond, List, [], ◌∷◌, ◌++◌, length, take, drop, replicate, Some, None, Option, ◌==◌, refl}
+use Rattle.std.specs.Prelude.{◌≡◌, ℕ, zero, suc, ◌+◌, ◌-◌, ◌≤◌, Bool, true, false, cond, List, [], ◌∷◌, ◌++◌, length, take, drop, replicate, Some, None, Option, Err, Result, ◌==◌, refl}
 use Rattle.std.proofs.Common.{sym, ap, subst, ◌∙◌, arith, length-append, length-take}
 use Rattle.std.proofs.Math.Seq.{take-nil}
 use Rattle.std.proofs.lemmas.List.{append-nil, append_assoc, drop_all, drop_at, drop-drop, take_all, take_at, take-append-drop, take-take, length-replicate}
 use Rattle.format.specs.Classes.{class_of, reads_storage}
+use Rattle.format.specs.Laying.{put_at}
+use Rattle.device.specs.declared.interface.Begun.{Begun}
 use Rattle.device.specs.Machine.{shut, taking, due, room, less_given, less_taken}
-use Rattle.unit.specs.declared.model.Started.{Started}
-use Rattle.unit.specs.declared.model.Started.TheVariants.{Unknown}
+use Rattle.unit.specs.declared.model.Fault.{Fault}
+use Rattle.unit.specs.Core.{unknown_command}
 use Rattle.unit.specs.Lemmas.{class_at, drop_past, take_two}
 use Rattle.unit.specs.CoreLaws.{CoreLaws, OpenedOwn}
 use Rattle.disk.specs.declared.blocks.Location.{Location}
-use Rattle.disk.specs.Blocks.{bytes_at, put_at}
+use Rattle.disk.specs.Blocks.{bytes_at}
 use Rattle.disk.specs.DiskState.{DiskState, Command, none, locating, writing, reading}
 use Rattle.disk.specs.DiskMachine.{disk_core, with_open, with_store, begin_locate, begin_write, begin_read, begin_own, pending_during, given_during, taken_during, store_during, location_by, end_locate, end_own}
 
@@ -61,7 +63,7 @@ shut_is_none (writing address n) h = cc
 shut_is_none (reading rest) h = cc
 
 -- the answer fits what is pending after it
-FitsPending : Bool → Started × DiskState → Type 0
+FitsPending : Bool → Result Begun Fault × DiskState → Type 0
 FitsPending reads x = OpenedOwn reads x.0 (pending_during x.1.command)
 
 write_fits : (place : Option Location) (s : DiskState) → pending_during s.command ≡ shut → FitsPending false (begin_write place s)
@@ -75,7 +77,7 @@ read_fits None s h = h
 read_fits (Some place) s h = (refl, (_, refl, length-bytes_at _ _ s.bytes))
 
 -- by the tests for the codes 43, 41 and 42
-begin_fits : (reads locates writes asks : Bool) (s : DiskState) → (locates ≡ true → reads ≡ false) → (writes ≡ true → reads ≡ false) → (asks ≡ true → reads ≡ true) → pending_during s.command ≡ shut → FitsPending reads (cond locates (begin_locate s) (cond writes (begin_write s.location s) (cond asks (begin_read s.location s) (Unknown, s))))
+begin_fits : (reads locates writes asks : Bool) (s : DiskState) → (locates ≡ true → reads ≡ false) → (writes ≡ true → reads ≡ false) → (asks ≡ true → reads ≡ true) → pending_during s.command ≡ shut → FitsPending reads (cond locates (begin_locate s) (cond writes (begin_write s.location s) (cond asks (begin_read s.location s) (Err unknown_command, s))))
 unfolding FitsPending
 begin_fits reads true writes asks s f g h e =
     subst (λ (b : Bool). FitsPending b (begin_locate s)) (sym (f refl)) refl

@@ -1,15 +1,16 @@
 -- The disk's commands. A reader must believe: for each code the answer and the state after it, what a locate
 -- names, and where the bytes of a write go, are as here; what every device shares is added by `unit_machine`.
-use Rattle.std.specs.Prelude.{ℕ, ◌+◌, ◌-◌, ◌*◌, cond, List, [], ◌++◌, length, take, drop, Some, None, Option, ◌==◌, slice_index}
+use Rattle.std.specs.Prelude.{ℕ, ◌+◌, ◌-◌, cond, List, [], ◌++◌, length, take, drop, Some, None, Option, Ok, Err, Result, ◌==◌}
+use Rattle.format.specs.Laying.{put_at}
+use Rattle.device.specs.declared.interface.Begun.{Begun}
+use Rattle.device.specs.declared.interface.Begun.TheVariants.{Open}
 use Rattle.device.specs.Machine.{Machine, Pending, shut, giving, taking}
-use Rattle.unit.specs.declared.model.Started.{Started}
-use Rattle.unit.specs.declared.model.Started.TheVariants.{Unknown, Fault as StartedFault, Open}
-use Rattle.unit.specs.declared.model.Finished.{Finished}
-use Rattle.unit.specs.declared.model.Finished.TheVariants.{Done, Fault as FinishedFault}
-use Rattle.unit.specs.Core.{Core}
+use Rattle.unit.specs.declared.model.Fault.{Fault}
+use Rattle.unit.specs.Core.{Core, unknown_command}
 use Rattle.unit.specs.UnitMachine.{UnitState, unit_machine, unit_at_first}
 use Rattle.disk.specs.declared.blocks.Location.{Location}
-use Rattle.disk.specs.Blocks.{size_of, address_of, range_exists, blocks_at, put_at}
+use Rattle.disk.specs.Blocks.{size_of, address_of, range_exists, blocks_at}
+use Rattle.disk.specs.Naming.{named_by}
 use Rattle.disk.specs.DiskState.{DiskState, Command, none, locating, writing, reading}
 
 abbrev pub with_open : Command → DiskState → DiskState
@@ -22,28 +23,36 @@ with_store store now_open s = record { bytes = store; location = s.location; com
 abbrev pub closed_at : Option Location → DiskState → DiskState
 closed_at place s = record { bytes = s.bytes; location = place; command = none }
 
+-- the answer to a write or a read without a location: status 02 and sense 80
+abbrev pub not_located : Fault
+not_located = record { status = 0x02; sense = 0x80 }
+
+-- the end of a locate that names no blocks of the disk: status 0E and sense 80
+abbrev pub no_such_blocks : Fault
+no_such_blocks = record { status = 0x0E; sense = 0x80 }
+
 -- 43: opens for the 4 bytes that name a location
-abbrev pub begin_locate : DiskState → Started × DiskState
-begin_locate s = (Open 4 4, with_open (locating []) s)
+abbrev pub begin_locate : DiskState → Result Begun Fault × DiskState
+begin_locate s = (Ok (Open 4 4), with_open (locating []) s)
 
 -- 41: opens for as many bytes as the located blocks have; without a location, status 02 and sense 80
-abbrev pub begin_write : Option Location → DiskState → Started × DiskState
-begin_write None s = (StartedFault 0x02 0x80, s)
+abbrev pub begin_write : Option Location → DiskState → Result Begun Fault × DiskState
+begin_write None s = (Err not_located, s)
 begin_write (Some place) s =
-    (Open (size_of place.count) (size_of place.count), with_open (writing (address_of place.first) (size_of place.count)) s)
+    (Ok (Open (size_of place.count) (size_of place.count)), with_open (writing (address_of place.first) (size_of place.count)) s)
 
 -- 42: opens with the bytes of the located blocks; without a location, status 02 and sense 80
-abbrev pub begin_read : Option Location → DiskState → Started × DiskState
-begin_read None s = (StartedFault 0x02 0x80, s)
+abbrev pub begin_read : Option Location → DiskState → Result Begun Fault × DiskState
+begin_read None s = (Err not_located, s)
 begin_read (Some place) s =
-    (Open (size_of place.count) (size_of place.count), with_open (reading (blocks_at place.first place.count s.bytes)) s)
+    (Ok (Open (size_of place.count) (size_of place.count)), with_open (reading (blocks_at place.first place.count s.bytes)) s)
 
 -- the disk has no other code of its own
-abbrev pub begin_own : ℕ → DiskState → Started × DiskState
+abbrev pub begin_own : ℕ → DiskState → Result Begun Fault × DiskState
 begin_own code s =
     cond (code == 0x43) (begin_locate s) (
     cond (code == 0x41) (begin_write s.location s) (
-    cond (code == 0x42) (begin_read s.location s) (Unknown, s)))
+    cond (code == 0x42) (begin_read s.location s) (Err unknown_command, s)))
 
 -- what the open command has still to move
 abbrev pub pending_during : Command → Pending
@@ -73,30 +82,25 @@ store_during offered (locating taken) store = store
 store_during offered (writing address n) store = put_at address (take n offered) store
 store_during offered (reading rest) store = store
 
-abbrev pub big_endian : ℕ → ℕ → ℕ
-big_endian high low = 256 * high + low
-
 -- these blocks, if they exist and the command that names them took all 4 bytes
-abbrev pub location_of : ℕ → ℕ → ℕ → Option Location
-location_of taken start blocks =
-    cond (taken == 4) (cond (range_exists start blocks) (Some (record { first = start; count = blocks })) None) None
+abbrev pub location_of : ℕ → Location → Option Location
+location_of taken place = cond (taken == 4) (cond (range_exists place.first place.count) (Some place) None) None
 
--- the location that a locate's bytes name: a count of blocks and the first block, two bytes each
+-- the location that a locate's bytes name
 abbrev pub location_by : List ℕ → Option Location
-location_by taken =
-    location_of (length taken) (big_endian (slice_index taken 2) (slice_index taken 3)) (big_endian (slice_index taken 0) (slice_index taken 1))
+location_by taken = location_of (length taken) (named_by taken)
 
 -- the end of a locate: a location and status 0C, or else none, status 0E and sense 80
-abbrev pub end_locate : Option Location → DiskState → Finished × DiskState
-end_locate None s = (FinishedFault 0x0E 0x80, closed_at None s)
-end_locate (Some place) s = (Done 0x0C, closed_at (Some place) s)
+abbrev pub end_locate : Option Location → DiskState → Result ℕ Fault × DiskState
+end_locate None s = (Err no_such_blocks, closed_at None s)
+end_locate (Some place) s = (Ok 0x0C, closed_at (Some place) s)
 
 -- the end of a write or a read: status 0C, and the location is used up
-abbrev pub end_own : Command → DiskState → Finished × DiskState
-end_own none s = (Done 0x0C, closed_at s.location s)
+abbrev pub end_own : Command → DiskState → Result ℕ Fault × DiskState
+end_own none s = (Ok 0x0C, closed_at s.location s)
 end_own (locating taken) s = end_locate (location_by taken) s
-end_own (writing address n) s = (Done 0x0C, closed_at None s)
-end_own (reading rest) s = (Done 0x0C, closed_at None s)
+end_own (writing address n) s = (Ok 0x0C, closed_at None s)
+end_own (reading rest) s = (Ok 0x0C, closed_at None s)
 
 abbrev pub disk_core : Core
 disk_core = record {

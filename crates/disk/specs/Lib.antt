@@ -1,5 +1,6 @@
 pub mod Blocks
-pub mod Reach
+pub mod Codes
+pub mod Naming
 pub mod DiskState
 pub mod DiskMachine
 pub mod DiskLaws

@@ -1,5 +1,8 @@
 ghost use Rattle.std.specs.Prelude.{◌≡◌, ◌+◌, ◌<◌, ◌≤◌, length};
-ghost use Rattle.disk.specs.Blocks.{address_of, block_at, put_at, range_exists};
+ghost use Rattle.disk.specs.Blocks.{address_of, block_at, range_exists};
+ghost use Rattle.disk.specs.Naming.{named_by, naming};
+
+use crate::extent::Extent;
 
 // How many bytes a block has.
 pub const BLOCK_SIZE: usize = 512;
@@ -11,20 +14,57 @@ pub const BLOCKS: usize = 64;
 pub const STORE_SIZE: usize = BLOCK_SIZE * BLOCKS;
 
 // Blocks that follow one another.
-#[derive(Clone, Copy)]
+#[derive(Clone, Copy, Debug, PartialEq, Eq)]
 pub struct Location {
     pub first: u16,
     pub count: u16,
 }
 
-// Whether there are such blocks, at least one.
-pub fn range_exists(first: u16, count: u16) -> bool
-    ensures { result ≡ range_exists first count }
-{
-    if count == 0 {
-        return false;
+impl Location {
+    // Whether there are such blocks, at least one.
+    pub fn exists(self) -> bool
+        ensures { result ≡ range_exists self.first self.count }
+    {
+        self.count > 0 && usize::from(self.first) + usize::from(self.count) <= BLOCKS
     }
-    first as usize + count as usize <= BLOCKS
+
+    // The addresses of the bytes of such blocks.
+    pub(crate) fn extent(self) -> Extent
+        requires { self.first + self.count ≤ 64 }
+        ensures first { result.next ≡ address_of self.first }
+        ensures last { result.limit ≡ address_of (self.first + self.count) }
+    {
+        let first = usize::from(self.first);
+        let end = first + usize::from(self.count);
+        Extent {
+            next: address_of(first),
+            limit: address_of(end),
+        }
+    }
+}
+
+// The blocks that the bytes of a locate name, whether they exist or not.
+impl From<[u8; 4]> for Location {
+    ghost from_gives = { λ bytes place. place ≡ named_by bytes };
+
+    fn from(bytes: [u8; 4]) -> Location {
+        let [count_high, count_low, first_high, first_low] = bytes;
+        Location {
+            first: u16::from_be_bytes([first_high, first_low]),
+            count: u16::from_be_bytes([count_high, count_low]),
+        }
+    }
+}
+
+// The bytes of a locate that name these blocks.
+impl From<Location> for [u8; 4] {
+    ghost from_gives = { λ place bytes. bytes ≡ naming place };
+
+    fn from(location: Location) -> [u8; 4] {
+        let [count_high, count_low] = location.count.to_be_bytes();
+        let [first_high, first_low] = location.first.to_be_bytes();
+        [count_high, count_low, first_high, first_low]
+    }
 }
 
 // The address of a block's first byte, or of the end behind the last block.
@@ -33,14 +73,6 @@ pub(crate) fn address_of(block: usize) -> usize
     ensures { result ≡ address_of block }
 {
     block * BLOCK_SIZE
-}
-
-// Stores the bytes from an address on.
-pub(crate) fn put_at(store: &mut [u8], address: usize, bytes: &[u8])
-    requires { address + length bytes.now ≤ length store.old }
-    ensures { store.new ≡ put_at address bytes.now store.old }
-{
-    store[address..address + bytes.len()].copy_from_slice(bytes);
 }
 
 // The bytes of a block.

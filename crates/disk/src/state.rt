@@ -1,8 +1,9 @@
 ghost use Rattle.std.specs.Prelude.{◌≡◌, ◌≤◌, length};
 ghost use Rattle.disk.specs.DiskState.{location_end};
-ghost use Rattle.disk.specs.Reach.{reach, reached};
 
 use crate::blocks::{Location, STORE_SIZE};
+use crate::extent::Extent;
+use arrayvec::ArrayVec;
 use unit::state::Unit;
 
 pub mod access;
@@ -12,27 +13,24 @@ pub mod commands;
 const PARAMETERS: usize = 4;
 
 // What the open command does.
-#[derive(Clone, Copy)]
+#[derive(Drop)]
 enum Phase {
     Idle,
-    // So many parameters have been taken.
-    Locating(usize),
-    // From the address of the next byte to the end of the located blocks.
-    Writing { next: usize, limit: usize },
-    Reading { next: usize, limit: usize },
+    // A locate, and the parameters that it has taken.
+    Locating(ArrayVec<u8, PARAMETERS>),
+    // A write or a read of what is left of the located blocks.
+    Writing(Extent),
+    Reading(Extent),
 }
 
-// What is a disk's own. The bytes of `parameters` past those that an open locate has taken do not count.
+// What is a disk's own.
 #[derive(Drop)]
 pub struct DiskModel {
     bytes: [u8; STORE_SIZE],
     location: Option<Location>,
-    parameters: [u8; PARAMETERS],
     phase: Phase,
     ghost full: { length bytes ≡ 32768 },
     ghost location_fits: { location_end location ≤ 64 },
-    ghost within: { reached phase ≤ reach phase },
-    ghost inside: { reach phase ≤ 32768 },
 }
 
 // The whole device.

@@ -1,18 +1,21 @@
 -- What a program's calls do to a disk that has nothing open, and the two theorems.
-use Rattle.std.proofs.Common.{◌≡◌, ℕ, ◌+◌, ◌/◌, ◌%◌, ◌≤◌, min, Bool, true, false, cond, eqb, leb, List, [], ◌∷◌, ◌++◌, length, take, drop, Some, None, Option, sym, refl, ap, ◌∙◌, inl, inr, arith, length-take, leb-true}
+use Rattle.std.proofs.Common.{◌≡◌, ℕ, ◌+◌, ◌≤◌, min, Bool, true, false, cond, eqb, leb, List, [], ◌∷◌, ◌++◌, length, take, drop, Some, None, Option, sym, refl, ap, ◌∙◌, inl, inr, arith, length-take, leb-true}
 use Rattle.std.proofs.lemmas.List.{append-nil, drop_all, take_all}
+use Rattle.format.specs.Bytes.{reader, half_word_at, half_word_bytes}
+use Rattle.format.specs.Laying.{put_at}
 use Rattle.device.specs.Parts.{total, joined, PartsAreOneMove}
 use Rattle.device.proofs.Moving.{parts_are_one_move}
 use Rattle.unit.specs.UnitLaws.{unit_laws}
-use Rattle.unit.specs.UnitMachine.{sense_finished}
+use Rattle.unit.specs.UnitMachine.{sense_after}
 use Rattle.unit.specs.declared.state.Sensing.{Sensing}
 use Rattle.unit.specs.declared.state.Sensing.TheVariants.{Closed, Unread, Read}
 use Rattle.disk.specs.declared.blocks.Location.{Location}
-use Rattle.disk.specs.Blocks.{size_of, address_of, range_exists, blocks_at, block_at, put_at}
+use Rattle.disk.specs.Naming.{named_by, naming}
+use Rattle.disk.specs.Blocks.{size_of, address_of, range_exists, blocks_at, block_at}
 use Rattle.disk.specs.DiskState.{DiskState, location_end, Command, none, locating, writing, reading}
-use Rattle.disk.specs.DiskMachine.{disk_core, disk_machine, big_endian, location_of, end_locate}
+use Rattle.disk.specs.DiskMachine.{disk_core, disk_machine, location_of, end_locate}
 use Rattle.disk.specs.DiskLaws.{disk_laws, length-bytes_at}
-use Rattle.disk_driver.specs.Programs.{State, Idle, naming, located, while_written, written, to_read, read_out, after_read}
+use Rattle.disk_driver.specs.Programs.{State, Idle, place_of, located, while_written, written, to_read, read_out, after_read}
 use Rattle.disk_driver.specs.Theorems.{ReadReturnsWhatWasWritten, NotLocated, WriteChangesNoOtherBlock}
 use Rattle.disk.proofs.Stored.{put_is_found, put_stays_before, put_stays_behind}
 
@@ -32,22 +35,21 @@ resting byte sensing place store (reading rest) h = cc
 is_idle : (s : State) → Idle s → s ≡ idle s.sense s.core.location s.core.bytes
 is_idle s h = resting s.sense s.sensing s.core.location s.core.bytes s.core.command h
 
-two_bytes : (n : ℕ) → big_endian (n / 256) (n % 256) ≡ n
+two_bytes : (n : ℕ) → half_word_at (reader (half_word_bytes n)) 0 ≡ n
 two_bytes n = omega arith
 
-abbrev place_of : ℕ → ℕ → Location
-place_of start blocks = record { first = start; count = blocks }
+named_back : (place : Location) → named_by (naming place) ≡ place
+named_back place =
+    ap (λ n. record { first = n; count = half_word_at (reader (half_word_bytes place.count)) 0 }) (two_bytes place.first)
+    ∙ ap (λ n. record { first = place.first; count = n }) (two_bytes place.count)
 
 located_there : (byte start blocks : ℕ) (place : Option Location) (store : List ℕ) → range_exists start blocks ≡ true → located start blocks (idle byte place store) ≡ idle byte (Some (place_of start blocks)) store
 located_there byte start blocks place store exists =
-    let open_state : DiskState = record { bytes = store; location = place; command = locating (naming start blocks) } in
-    let first_block = big_endian (start / 256) (start % 256) in
-    let count_of_blocks = big_endian (blocks / 256) (blocks % 256) in
-    let named : location_of 4 first_block count_of_blocks ≡ Some (place_of start blocks) =
-    ap (λ n. location_of 4 n count_of_blocks) (two_bytes start)
-    ∙ ap (λ n. location_of 4 start n) (two_bytes blocks)
-    ∙ ap (λ b. cond b (Some (place_of start blocks)) None) exists in
-    ap (λ p. record { sense = sense_finished (end_locate p open_state).0 byte; sensing = Closed; core = (end_locate p open_state).1 }) named
+    let there = place_of start blocks in
+    let open_state : DiskState = record { bytes = store; location = place; command = locating (naming there) } in
+    let named : location_of 4 (named_by (naming there)) ≡ Some there =
+    ap (location_of 4) (named_back there) ∙ ap (λ b. cond b (Some there) None) exists in
+    ap (λ p. record { sense = sense_after (end_locate p open_state).0 byte; sensing = Closed; core = (end_locate p open_state).1 }) named
 
 one_move : PartsAreOneMove disk_machine
 one_move = parts_are_one_move (unit_laws disk_core disk_laws)

@@ -1,9 +1,11 @@
 -- What a program does with a disk. A reader must believe: to locate, to write and to read are these calls, in
 -- this order, and the bytes of a write or a read may be moved in any parts.
-use Rattle.std.specs.Prelude.{◌≡◌, ℕ, ◌/◌, ◌%◌, min, List, [], ◌∷◌, ◌++◌, length, take, drop}
+use Rattle.std.specs.Prelude.{◌≡◌, ℕ, min, List, ◌++◌, length, take, drop}
 use Rattle.device.specs.Machine.{shut, due}
 use Rattle.device.specs.Parts.{handed_out, given_all, taken_all}
 use Rattle.unit.specs.UnitMachine.{UnitState}
+use Rattle.disk.specs.declared.blocks.Location.{Location}
+use Rattle.disk.specs.Naming.{naming}
 use Rattle.disk.specs.DiskMachine.{disk_core, disk_machine}
 
 abbrev pub State : Type 0
@@ -13,13 +15,12 @@ State = UnitState disk_core
 abbrev pub Idle : State → Type 0
 Idle s = disk_machine.pending s ≡ shut
 
--- the 4 bytes that name some blocks
-abbrev pub naming : ℕ → ℕ → List ℕ
-naming start blocks = blocks / 256 ∷ blocks % 256 ∷ start / 256 ∷ start % 256 ∷ []
+abbrev pub place_of : ℕ → ℕ → Location
+place_of start blocks = record { first = start; count = blocks }
 
 -- the status that a locate of some blocks ends with, and the disk after it
 abbrev pub locating_ends : ℕ → ℕ → State → ℕ × State
-locating_ends start blocks s = disk_machine.ended (disk_machine.taken (naming start blocks) (disk_machine.begun 0x43 s).1)
+locating_ends start blocks s = disk_machine.ended (disk_machine.taken (naming (place_of start blocks)) (disk_machine.begun 0x43 s).1)
 
 abbrev pub located : ℕ → ℕ → State → State
 located start blocks s = (locating_ends start blocks s).1

@@ -8,9 +8,9 @@ ghost use Rattle.disk_driver.specs.Programs.{after_read, Idle, located, locating
 ghost use Rattle.disk_driver.specs.Theorems.{NotLocated, ReadReturnsWhatWasWritten, WriteChangesNoOtherBlock};
 
 use device::interface::Device;
-use disk::blocks::{Location, range_exists};
+use disk::blocks::Location;
+use disk::code::Code;
 use disk::state::Disk;
-use disk::state::commands::{LOCATE, READ, WRITE};
 
 // Locates blocks, and answers the status.
 fn locate(disk: &mut Disk, location: Location) -> u8
@@ -19,15 +19,8 @@ fn locate(disk: &mut Disk, location: Location) -> u8
     ensures returned { ReadReturnsWhatWasWritten }
     ensures others { WriteChangesNoOtherBlock }
 {
-    let Location { first, count } = location;
-    let parameters = [
-        (count / 256) as u8,
-        (count % 256) as u8,
-        (first / 256) as u8,
-        (first % 256) as u8,
-    ];
-    disk.begin(LOCATE);
-    disk.take(&parameters);
+    disk.begin(Code::Locate.into());
+    disk.take(&<[u8; 4]>::from(location));
     disk.end()
 }
 
@@ -38,7 +31,7 @@ pub fn write_blocks(disk: &mut Disk, location: Location, bytes: &[u8]) -> u8
     ensures others { WriteChangesNoOtherBlock }
 {
     locate(disk, location);
-    disk.begin(WRITE);
+    disk.begin(Code::Write.into());
     disk.take(bytes);
     disk.end()
 }
@@ -51,7 +44,7 @@ pub fn read_blocks(disk: &mut Disk, location: Location, buffer: &mut [u8]) -> us
     ensures returned { ReadReturnsWhatWasWritten }
 {
     locate(disk, location);
-    disk.begin(READ);
+    disk.begin(Code::Read.into());
     let n = disk.give(buffer);
     disk.end();
     n
@@ -70,7 +63,7 @@ pub fn write_and_read_back(
     ensures same { Idle (meaning disk.old) → result ≡ true → length bytes.now ≡ size_of location.count → length back.old ≡ size_of location.count → back.new ≡ bytes.now }
     ensures kept { Idle (meaning disk.old) → (block : ℕ) → NotLocated block (Some location) → block_at block (meaning disk.new).core.bytes ≡ block_at block (meaning disk.old).core.bytes }
 {
-    if !range_exists(location.first, location.count) {
+    if !location.exists() {
         return false;
     }
     write_blocks(disk, location, bytes);

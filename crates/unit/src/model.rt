@@ -5,6 +5,8 @@ ghost use Rattle.unit.specs.CoreLaws.{CoreLaws};
 
 use crate::status::REFUSED;
 use device::interface::Begun;
+use std::error::Error;
+use std::fmt;
 
 // What a command that fails leaves: its status, and the sense byte that tells why.
 #[derive(Clone, Copy, Debug, PartialEq, Eq)]
@@ -24,6 +26,14 @@ impl Fault {
         }
     }
 }
+
+impl fmt::Display for Fault {
+    fn fmt<W: fmt::Write>(&self, f: &mut fmt::Formatter<W>) -> fmt::Result {
+        write!(f, "status {:02X}, sense {:02X}", self.status, self.sense)
+    }
+}
+
+impl Error for Fault {}
 
 // A device's own commands.
 pub trait Model {

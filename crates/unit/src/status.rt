@@ -1,4 +1,5 @@
-// The statuses that a device answers.
+// The statuses that a device answers. They are constants and no enum: a status is a byte of the status word,
+// and a device may answer any.
 
 // A command is open.
 pub const BUSY: u8 = 0x10;

@@ -1,10 +1,69 @@
-ghost use Rattle.console.specs.ConsoleMachine.{console_core};
+ghost use Rattle.std.specs.Prelude.{◌≡◌};
+ghost use Rattle.console.specs.ConsoleMachine.{begin_read, begin_write, console_core};
 ghost use Rattle.console.specs.ConsoleLaws.{console_laws};
 ghost use Rattle.console.specs.Meaning.{model_meaning};
+ghost use Rattle.console.specs.Codes.{decoded};
 
-use super::{ConsoleModel, PAPER, Phase};
+use super::{ConsoleModel, Phase};
+use device::interface::Begun;
 use unit::copying::{append, hand_out};
-use unit::model::{Finished, Model as DeviceModel, Started};
+use unit::model::{Fault, Model as DeviceModel};
+use unit::status::{ENDED, FAILED};
+
+// A command of the console's own.
+#[derive(Clone, Copy, Debug, PartialEq, Eq)]
+enum Code {
+    Write,
+    Read,
+}
+
+impl TryFrom<u8> for Code {
+    type Error = Fault;
+
+    ghost try_from_gives = { λ code r. r ≡ decoded code };
+
+    fn try_from(code: u8) -> Result<Code, Fault> {
+        match code {
+            0x09 => Ok(Code::Write),
+            0x0A => Ok(Code::Read),
+            _ => Err(Fault::unknown_command()),
+        }
+    }
+}
+
+// The answer to a write without paper, and to a read without a line.
+const NOTHING_LEFT: Fault = Fault {
+    status: FAILED,
+    sense: 0x40,
+};
+
+impl ConsoleModel {
+    // Opens a write on the paper that is left.
+    fn begin_write(&mut self) -> Result<Begun, Fault>
+        ensures answer { result ≡ (begin_write (model_meaning self.old)).0 }
+        ensures became { model_meaning self.new ≡ (begin_write (model_meaning self.old)).1 }
+    {
+        if self.paper.is_full() {
+            return Err(NOTHING_LEFT); // No paper is left.
+        }
+        self.phase = Phase::Printing;
+        let most = self.paper.remaining_capacity() as u32;
+        Ok(Begun::Open { least: 0, most })
+    }
+
+    // Opens a read of the line that waits.
+    fn begin_read(&mut self) -> Result<Begun, Fault>
+        ensures answer { result ≡ (begin_read (model_meaning self.old)).0 }
+        ensures became { model_meaning self.new ≡ (begin_read (model_meaning self.old)).1 }
+    {
+        if self.line.is_empty() {
+            return Err(NOTHING_LEFT); // No line waits.
+        }
+        self.phase = Phase::ReadingLine(0);
+        let most = self.line.len() as u32;
+        Ok(Begun::Open { least: most, most })
+    }
+}
 
 impl DeviceModel for ConsoleModel {
     ghost core = { console_core };
@@ -14,44 +73,20 @@ impl DeviceModel for ConsoleModel {
     ghost state = { model_meaning };
 
     fn is_open(&self) -> bool {
-        match self.phase {
-            Phase::Idle => false,
-            _ => true,
-        }
+        self.phase != Phase::Idle
     }
 
-    fn begin(&mut self, code: u8) -> Started {
-        match code {
-            0x09 => {
-                if self.printed == PAPER {
-                    return Started::Fault {
-                        status: 0x0E,
-                        sense: 0x40, // No paper is left.
-                    };
-                }
-                self.phase = Phase::Printing;
-                let most = (PAPER - self.printed) as u32;
-                Started::Open { least: 0, most }
-            }
-            0x0A => {
-                if self.line_size == 0 {
-                    return Started::Fault {
-                        status: 0x0E,
-                        sense: 0x40, // No line waits.
-                    };
-                }
-                self.phase = Phase::ReadingLine(0);
-                let most = self.line_size as u32;
-                Started::Open { least: most, most }
-            }
-            _ => Started::Unknown,
+    fn begin(&mut self, code: u8) -> Result<Begun, Fault> {
+        match Code::try_from(code)? {
+            Code::Write => self.begin_write(),
+            Code::Read => self.begin_read(),
         }
     }
 
     fn give(&mut self, buffer: &mut [u8]) -> usize {
         match self.phase {
             Phase::ReadingLine(gone) => {
-                let n = hand_out(buffer, &self.line[..self.line_size], gone);
+                let n = hand_out(buffer, &self.line, gone);
                 self.phase = Phase::ReadingLine(gone + n);
                 n
             }
@@ -61,20 +96,16 @@ impl DeviceModel for ConsoleModel {
 
     fn take(&mut self, bytes: &[u8]) -> usize {
         match self.phase {
-            Phase::Printing => {
-                let n = append(&mut self.paper, self.printed, bytes);
-                self.printed += n;
-                n
-            }
-            _ => 0,
+            Phase::Printing => append(&mut self.paper, bytes),
+            Phase::Idle | Phase::ReadingLine(_) => 0,
         }
     }
 
-    fn end(&mut self) -> Finished {
+    fn end(&mut self) -> Result<u8, Fault> {
         if let Phase::ReadingLine(_) = self.phase {
-            self.line_size = 0;
+            self.line.clear();
         }
         self.phase = Phase::Idle;
-        Finished::Done(0x0C)
+        Ok(ENDED)
     }
 }

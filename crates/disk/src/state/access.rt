@@ -4,7 +4,7 @@ ghost use Rattle.disk.specs.DiskMachine.{at_first};
 ghost use Rattle.disk.specs.DiskState.{Whole};
 ghost use Rattle.disk.specs.Meaning.{meaning, model_meaning};
 
-use super::{Disk, DiskModel, PARAMETERS, Phase};
+use super::{Disk, DiskModel, Phase};
 use crate::blocks::{BLOCKS, Location, STORE_SIZE, block_of};
 use unit::state::Unit;
 
@@ -15,7 +15,6 @@ fn disk_of(bytes: [u8; STORE_SIZE]) -> Disk
     Unit::new(DiskModel {
         bytes,
         location: None,
-        parameters: [0; PARAMETERS],
         phase: Phase::Idle,
     })
 }
@@ -24,11 +23,7 @@ fn disk_of(bytes: [u8; STORE_SIZE]) -> Disk
 pub fn new_disk(bytes: &[u8]) -> Option<Disk>
     ensures { MatchOption result (length bytes.now ≢ 32768) (λ made. (length bytes.now ≡ 32768) × (meaning made ≡ at_first bytes.now)) }
 {
-    if bytes.len() != STORE_SIZE {
-        return None;
-    }
-    let mut store = [0; STORE_SIZE];
-    store.copy_from_slice(bytes);
+    let store = <[u8; STORE_SIZE]>::try_from(bytes).ok()?;
     Some(disk_of(store))
 }
 

@@ -1,23 +1,19 @@
-use Rattle.std.proofs.Common.{◌≡◌, ◌-◌, ◌≤◌, length, sym, ap, ◌∙◌, arith, rules}
-use Rattle.unit.specs.declared.model.Started.TheVariants.{Open}
-use Rattle.disk.specs.Blocks.{size_of}
-use Rattle.disk.specs.DiskState.{reading}
+use Rattle.std.proofs.Common.{◌≡◌, ◌≤◌, length, take, drop, Some, None, Option, Ok, ap, arith}
+use Rattle.disk.specs.declared.blocks.Location.{Location}
+use Rattle.disk.specs.declared.extent.Extent.{Extent}
+use Rattle.disk.specs.DiskState.{DiskState, reading}
 use Rattle.disk.specs.DiskMachine.{with_open, begin_read}
-use Rattle.disk.specs.Meaning.{model_meaning}
+use Rattle.disk.specs.Meaning.{Located, model_meaning}
 use Rattle.disk.proofs.Stored.{blocks_between}
 use Rattle.disk.proofs.state.DiskModel.begin_read.Goals as goal
 
-pub returns-in-Some : goal.returns-in-Some
-returns-in-Some c =
-    let before = model_meaning c.args.self.now in
-    let place = c.in-Some.location in
-    let next = c.address_of-next.result in
-    let limit = c.address_of-limit.result in
-    let is_located = c.in-Some.is in
-    let size : limit - next ≡ size_of place.count = omega arith in
-    let fits : limit ≤ length before.bytes = search rules in
-    let held = blocks_between place.first place.count next limit before.bytes c.address_of-next.ensures c.address_of-limit.ensures fits in
-    record {
-      answer = ap (λ n. Open n n) size ∙ sym (ap (λ p. (begin_read p before).0) is_located);
-      became = ap (λ x. with_open (reading x) before) held ∙ sym (ap (λ p. (begin_read p before).1) is_located);
-    }
+read_opens : (place : Option Location) (extent : Extent) (s : DiskState) → Located place (Ok extent) → extent.limit ≤ length s.bytes → with_open (reading (drop extent.next (take extent.limit s.bytes))) s ≡ (begin_read place s).1
+read_opens None extent s h lies = cc
+read_opens (Some place) extent s h lies =
+    ap (λ x. with_open (reading x) s) (blocks_between place.first place.count extent.next extent.limit s.bytes h.0 h.1 lies)
+
+pub returns-clause-became : goal.returns-clause-became
+returns-clause-became c =
+    let before = c.args.self.now in
+    let extent = c.in_ok-extent.extent in
+    read_opens before.location extent (model_meaning before) c.in_ok-extent.ensures (omega (arith, extent.inside, before.full))

@@ -4,7 +4,7 @@ ghost use Rattle.tape.specs.TapeLaws.{tape_laws};
 ghost use Rattle.tape.specs.Meaning.{model_meaning, begin_in, block_in, block_left};
 
 use super::{Phase, TapeModel};
-use crate::codes::{Code, Direction};
+use crate::code::{Code, Direction};
 use crate::reel::{BLOCKS, CAPACITY};
 use crate::reversing::hand_out_in;
 use device::interface::Begun;

@@ -3,15 +3,15 @@
 use Rattle.std.specs.Prelude.{ℕ, cond, Ok, Err, Result, ◌==◌}
 use Rattle.unit.specs.declared.model.Fault.{Fault}
 use Rattle.unit.specs.Core.{unknown_command}
-use Rattle.tape.specs.declared.codes.Code.{Code}
-use Rattle.tape.specs.declared.codes.Code.TheVariants.{Write, Read, Rewind}
-use Rattle.tape.specs.declared.codes.Direction.TheVariants.{Forward, Backward}
+use Rattle.tape.specs.declared.code.Code.{Code}
+use Rattle.tape.specs.declared.code.Code.TheVariants.{Write, Read, Rewind}
+use Rattle.tape.specs.declared.code.Direction.TheVariants.{Forward, Backward}
 
-abbrev pub code_of : Code → ℕ
-code_of Write = 0x01
-code_of (Read Forward) = 0x02
-code_of (Read Backward) = 0x0C
-code_of Rewind = 0x07
+abbrev pub byte_of : Code → ℕ
+byte_of Write = 0x01
+byte_of (Read Forward) = 0x02
+byte_of (Read Backward) = 0x0C
+byte_of Rewind = 0x07
 
 abbrev pub decoded : ℕ → Result Code Fault
 decoded code =

@@ -11,8 +11,8 @@ use Rattle.unit.specs.declared.model.Fault.{Fault}
 use Rattle.tape.specs.TapeMachine.{tape_core, begin_read, begin_read_backward}
 use Rattle.tape.specs.Standing.{in_order}
 use Rattle.tape.specs.declared.state.TapeModel.{TapeModel}
-use Rattle.tape.specs.declared.codes.Direction.{Direction}
-use Rattle.tape.specs.declared.codes.Direction.TheVariants.{Forward, Backward}
+use Rattle.tape.specs.declared.code.Direction.{Direction}
+use Rattle.tape.specs.declared.code.Direction.TheVariants.{Forward, Backward}
 use Rattle.tape.specs.declared.state.Phase.{Phase}
 use Rattle.tape.specs.declared.state.Phase.TheVariants.{Idle, Writing, Reading}
 

@@ -1,8 +1,8 @@
 -- What the open command asks of the fields. A reader must believe of `in_order` that it is the order in which a
 -- direction reads a block's bytes, and nothing of the others: they only bound what the code keeps.
 use Rattle.std.specs.Prelude.{ℕ, List, reverse}
-use Rattle.tape.specs.declared.codes.Direction.{Direction}
-use Rattle.tape.specs.declared.codes.Direction.TheVariants.{Forward, Backward}
+use Rattle.tape.specs.declared.code.Direction.{Direction}
+use Rattle.tape.specs.declared.code.Direction.TheVariants.{Forward, Backward}
 use Rattle.tape.specs.declared.state.Phase.{Phase}
 use Rattle.tape.specs.declared.state.Phase.TheVariants.{Idle, Writing, Reading}
 

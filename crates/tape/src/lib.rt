@@ -1,8 +1,9 @@
 // The tape: a device that keeps blocks of bytes in a row, writes and reads them at a position, reads them
-// backward, rewinds, and reports by a sense byte.
+// backward, rewinds, and reports by a sense byte. `code` says which commands there are, `reel` keeps the blocks,
+// `reversing` copies bytes backward, and `state` is the device.
 #![tactic(auto)]
 
-pub mod codes;
+pub mod code;
 mod reel;
 mod reversing;
 pub mod state;

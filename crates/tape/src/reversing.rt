@@ -3,7 +3,7 @@
 ghost use Rattle.std.specs.Prelude.{◌≡◌, ◌+◌, ◌-◌, ◌≤◌, min, ◌++◌, reverse, length, take, drop};
 ghost use Rattle.tape.specs.Standing.{in_order};
 
-use crate::codes::Direction;
+use crate::code::Direction;
 use unit::copying::hand_out;
 
 // Copies the last bytes, the very last one first, as many as the buffer holds, and says how many.

@@ -1,7 +1,7 @@
 ghost use Rattle.std.specs.Prelude.{◌+◌, ◌≤◌, length};
 ghost use Rattle.tape.specs.Standing.{bytes_read, blocks_written, blocks_read, blocks_read_backward};
 
-use crate::codes::Direction;
+use crate::code::Direction;
 use crate::reel::Reel;
 use unit::state::Unit;
 

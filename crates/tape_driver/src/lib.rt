@@ -5,12 +5,12 @@ ghost use Rattle.std.specs.Prelude.{◌≡◌, ◌<◌, ◌≤◌, min, ◌++◌
 ghost use Rattle.device.specs.Machine.{shut, room};
 ghost use Rattle.tape.specs.TapeMachine.{tape_machine};
 ghost use Rattle.tape.specs.Meaning.{meaning};
-ghost use Rattle.tape.specs.Codes.{code_of};
-ghost use Rattle.tape.specs.declared.codes.Code.TheVariants.{Read};
+ghost use Rattle.tape.specs.Codes.{byte_of};
+ghost use Rattle.tape.specs.declared.code.Code.TheVariants.{Read};
 ghost use Rattle.tape_driver.specs.Theorems.{after_begin, after_rewind, after_write, after_read, heard, FitsHere, WrittenIsReadBack, WrittenIsReadBackward, BlocksBeforeStay};
 
 use device::interface::Device;
-use tape::codes::{Code, Direction};
+use tape::code::{Code, Direction};
 use tape::state::Tape;
 
 // Writes the bytes as one block at the position, and says how many of them the tape took.
@@ -18,28 +18,28 @@ pub fn write_block(tape: &mut Tape, bytes: &[u8]) -> usize
     ensures count { result ≡ min (length bytes.now) (room (tape_machine.pending (after_begin 0x01 (meaning tape.old)))) }
     ensures became { meaning tape.new ≡ after_write bytes.now (meaning tape.old) }
 {
-    let _ = tape.begin(Code::Write.into());
+    tape.begin(Code::Write.into());
     let taken = tape.take(bytes);
-    let _ = tape.end();
+    tape.end();
     taken
 }
 
 // Reads one block in this direction into the buffer, and says how many bytes it got.
 fn read_block(tape: &mut Tape, direction: Direction, buffer: &mut [u8]) -> usize
-    ensures count { result ≡ min (length buffer.old) (length (heard (code_of (Read direction)) (meaning tape.old))) }
-    ensures bytes { buffer.new ≡ take (length buffer.old) (heard (code_of (Read direction)) (meaning tape.old)) ++ drop result buffer.old }
-    ensures became { meaning tape.new ≡ after_read (code_of (Read direction)) (length buffer.old) (meaning tape.old) }
+    ensures count { result ≡ min (length buffer.old) (length (heard (byte_of (Read direction)) (meaning tape.old))) }
+    ensures bytes { buffer.new ≡ take (length buffer.old) (heard (byte_of (Read direction)) (meaning tape.old)) ++ drop result buffer.old }
+    ensures became { meaning tape.new ≡ after_read (byte_of (Read direction)) (length buffer.old) (meaning tape.old) }
 {
-    let _ = tape.begin(Code::Read(direction).into());
+    tape.begin(Code::Read(direction).into());
     let given = tape.give(buffer);
-    let _ = tape.end();
+    tape.end();
     given
 }
 
 fn rewind(tape: &mut Tape)
     ensures { meaning tape.new ≡ after_rewind (meaning tape.old) }
 {
-    let _ = tape.begin(Code::Rewind.into());
+    tape.begin(Code::Rewind.into());
 }
 
 // Rewinds, writes the bytes as the only block, rewinds, and reads it into the buffer.
@@ -51,7 +51,7 @@ pub fn write_and_read_back(tape: &mut Tape, bytes: &[u8], buffer: &mut [u8]) -> 
     ensures always { WrittenIsReadBack }
 {
     rewind(tape);
-    let _ = write_block(tape, bytes);
+    write_block(tape, bytes);
     rewind(tape);
     read_block(tape, Direction::Forward, buffer)
 }
@@ -65,6 +65,6 @@ pub fn write_and_read_backward(tape: &mut Tape, bytes: &[u8], buffer: &mut [u8])
     ensures always { WrittenIsReadBackward }
     ensures stay { BlocksBeforeStay }
 {
-    let _ = write_block(tape, bytes);
+    write_block(tape, bytes);
     read_block(tape, Direction::Backward, buffer)
 }

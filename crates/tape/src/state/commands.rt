@@ -4,7 +4,7 @@ ghost use Rattle.tape.specs.TapeLaws.{tape_laws};
 ghost use Rattle.tape.specs.Meaning.{model_meaning, begin_in, block_in, block_left};
 
 use super::{Phase, TapeModel};
-use crate::codes::{Code, Direction};
+use crate::code::{Code, Direction};
 use crate::reel::{BLOCKS, CAPACITY};
 use crate::reversing::hand_out_in;
 use device::interface::Begun;
@@ -85,6 +85,7 @@ impl DeviceModel for TapeModel {
     fn give(&mut self, buffer: &mut [u8]) -> usize {
         match self.phase {
             Phase::Reading(direction, gone) => {
+                // A read opens only where a block is left.
                 let block = self.next_block(direction).unwrap_or(&[]);
                 let n = hand_out_in(direction, buffer, block, gone);
                 self.phase = Phase::Reading(direction, gone + n);

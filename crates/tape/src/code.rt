@@ -1,5 +1,5 @@
 ghost use Rattle.std.specs.Prelude.{◌≡◌};
-ghost use Rattle.tape.specs.Codes.{code_of, decoded};
+ghost use Rattle.tape.specs.Codes.{byte_of, decoded};
 
 use unit::model::Fault;
 
@@ -19,7 +19,7 @@ pub enum Code {
 }
 
 impl From<Code> for u8 {
-    ghost from_gives = { λ code number. number ≡ code_of code };
+    ghost from_gives = { λ code byte. byte ≡ byte_of code };
 
     fn from(code: Code) -> u8 {
         match code {
@@ -34,10 +34,10 @@ impl From<Code> for u8 {
 impl TryFrom<u8> for Code {
     type Error = Fault;
 
-    ghost try_from_gives = { λ number r. r ≡ decoded number };
+    ghost try_from_gives = { λ byte r. r ≡ decoded byte };
 
-    fn try_from(number: u8) -> Result<Code, Fault> {
-        match number {
+    fn try_from(byte: u8) -> Result<Code, Fault> {
+        match byte {
             0x01 => Ok(Code::Write),
             0x02 => Ok(Code::Read(Direction::Forward)),
             0x0C => Ok(Code::Read(Direction::Backward)),

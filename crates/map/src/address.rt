@@ -1,7 +1,7 @@
 ghost use Rattle.std.specs.Prelude.{◌≡◌, ◌/◌};
 
 // The bytes of a page of a guest's storage, and of a frame of the host's.
-pub(crate) const PAGE_SIZE: u32 = 4096;
+pub const PAGE_SIZE: u32 = 4096;
 
 // An address in a guest's storage.
 #[derive(Clone, Copy, Debug, PartialEq, Eq)]

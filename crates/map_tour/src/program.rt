@@ -2,13 +2,12 @@ use format::ccw::{Ccw, Format};
 use format::flags::Flags;
 use format::laying::put_at;
 use frame_maps::page_table::PageTable;
+use map::address::PAGE_SIZE;
 use map::interface::Map;
 use map::view::GuestView;
 use rules::place::{Broken, Place, Taken};
 use rules::storage::Plain;
 use rules::taking_up::take_up;
-
-const PAGE_SIZE: usize = 4096;
 
 const GUEST_SIZE: usize = 8192;
 
@@ -44,8 +43,9 @@ fn write_program(guest: &mut [u8]) {
 
 // Lays each page of the guest into its frame.
 fn lay(table: &PageTable, guest: &[u8], host: &mut [u8]) {
-    for (page, bytes) in guest.chunks(PAGE_SIZE).enumerate() {
-        put_at(host, usize::from(table.frame_of(page)) * PAGE_SIZE, bytes);
+    let size = PAGE_SIZE as usize;
+    for (page, bytes) in guest.chunks(size).enumerate() {
+        put_at(host, usize::from(table.frame_of(page)) * size, bytes);
     }
 }
 

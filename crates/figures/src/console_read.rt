@@ -13,8 +13,9 @@ fn storage_with(count: u16) -> [u8; 1024]
     let mut storage = [0u8; 1024];
     storage[0x100] = 0x0A;
     storage[0x102] = 0x02;
-    storage[0x106] = (count / 256) as u8;
-    storage[0x107] = (count % 256) as u8;
+    let [high, low] = count.to_be_bytes();
+    storage[0x106] = high;
+    storage[0x107] = low;
     storage
 }
 
@@ -22,9 +23,7 @@ fn run_read(count: u16) -> Option<StatusWord>
     ensures { result ≡ read_answer count }
 {
     let mut storage = storage_with(count);
-    let Some(mut console) = new_console(b"HELLO") else {
-        return None;
-    };
+    let mut console = new_console(b"HELLO")?;
     let mut program = Program::start(Format::Zero, 0x100);
     let _ = program.advance(&mut storage, &mut console, 1);
     program.status()

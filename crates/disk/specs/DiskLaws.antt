@@ -24,9 +24,6 @@ length-bytes_at address n store =
     let so_many : length zeros ≡ n = length-replicate {A = ℕ} n 0 in
     omega (arith, length-take n (drop address store ++ zeros), length-append (drop address store) zeros)
 
-put_nothing : (address : ℕ) (store : List ℕ) → put_at address [] store ≡ store
-put_nothing address store = take-append-drop address store
-
 -- bytes that are put behind others
 put_more : (address : ℕ) (a b store : List ℕ) → put_at (address + length a) b (put_at address a store) ≡ put_at address (a ++ b) store
 put_more zero a b store =
@@ -142,7 +139,7 @@ take_nothing (locating taken) store =
     ap (λ x. (store, locating x)) (ap (λ x. taken ++ x) (take-nil (4 - length taken)) ∙ append-nil taken)
 take_nothing (writing address n) store =
     let none_taken : take n [] ≡ [] = take-nil n in
-    same_write (ap (λ x. put_at address x store) none_taken ∙ put_nothing address store) (omega (arith, ap length none_taken)) (omega arith)
+    same_write (ap (λ x. put_at address x store) none_taken ∙ take-append-drop address store) (omega (arith, ap length none_taken)) (omega arith)
 take_nothing (reading rest) store = refl
 
 take_more : (c : Command) (a b store : List ℕ) → after b (after a (store, c)) ≡ after (a ++ b) (store, c)

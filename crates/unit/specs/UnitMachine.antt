@@ -1,5 +1,5 @@
 -- A device: a model and what every device shares. A reader must believe: the sense byte, the answers to the
--- codes 03 and 04, to unknown codes and to calls out of turn are as here, and all else is the model's.
+-- codes 03 and 04, to a model's faults and to calls out of turn are as here, and all else is the model's.
 use Rattle.std.specs.Prelude.{ℕ, zero, suc, Bool, true, false, cond, List, [], ◌∷◌, Ok, Err, Result, ◌==◌}
 use Rattle.device.specs.declared.interface.Begun.{Begun}
 use Rattle.device.specs.declared.interface.Begun.TheVariants.{Immediate, Open}

@@ -29,7 +29,8 @@ fn give_sense(sensing: &mut Sensing, byte: u8, buffer: &mut [u8]) -> usize
 }
 
 impl<M> Unit<M> {
-    // Keeps the sense byte of a fault, and answers its status.
+    // Keeps the sense byte of a fault, and answers its status. Its calls stand in a `match`: in a closure of
+    // `unwrap_or_else` they were tried, and the goal on what it leaves in `self` did not close.
     fn report(&mut self, fault: Fault) -> u8
         ensures status { result ≡ fault.status }
         ensures became { self.new ≡ record self.old { sense = fault.sense } }

@@ -42,6 +42,15 @@ fn rewind(tape: &mut Tape)
     tape.begin(Code::Rewind.into());
 }
 
+// Reads the block before the position, its last byte first.
+fn read_backward(tape: &mut Tape, buffer: &mut [u8]) -> usize
+    ensures count { result ≡ min (length buffer.old) (length (heard 0x0C (meaning tape.old))) }
+    ensures bytes { buffer.new ≡ take (length buffer.old) (heard 0x0C (meaning tape.old)) ++ drop result buffer.old }
+    ensures became { meaning tape.new ≡ after_read 0x0C (length buffer.old) (meaning tape.old) }
+{
+    read_block(tape, Direction::Backward, buffer)
+}
+
 // Rewinds, writes the bytes as the only block, rewinds, and reads it into the buffer.
 pub fn write_and_read_back(tape: &mut Tape, bytes: &[u8], buffer: &mut [u8]) -> usize
     ensures count { result ≡ min (length buffer.old) (length (heard 0x02 (after_rewind (after_write bytes.now (after_rewind (meaning tape.old)))))) }
@@ -66,5 +75,5 @@ pub fn write_and_read_backward(tape: &mut Tape, bytes: &[u8], buffer: &mut [u8])
     ensures stay { BlocksBeforeStay }
 {
     write_block(tape, bytes);
-    read_block(tape, Direction::Backward, buffer)
+    read_backward(tape, buffer)
 }

@@ -1,21 +1,30 @@
 -- What a window shows of a lawful map. Nothing here has to be believed: these are lemmas with their
 -- proofs, which stand here since the law of a window cites them.
-use Rattle.std.specs.Prelude.{◌≡◌, ℕ, ◌+◌, ◌<◌, Bool, List, length, drop, slice_index}
-use Rattle.std.proofs.Common.{sym, ◌∙◌, arith}
-use Rattle.std.proofs.lemmas.List.{length-take, length-drop, get_or-take, get_or-drop}
+use Rattle.std.specs.Prelude.{◌≡◌, ℕ, ◌+◌, ◌-◌, ◌<◌, min, Bool, cond, List, length, drop, nat_lt, slice_index, refl}
+use Rattle.std.proofs.Common.{sym, ap, ◌∙◌, inl, inr, arith}
+use Rattle.std.proofs.lemmas.Bool.{cases_lt, cond_below, cond_above}
+use Rattle.std.proofs.lemmas.List.{length-take, length-drop, get_or-take, get_or-drop, get_or_past}
 use Rattle.map.specs.Law.{Lawful}
 use Rattle.window.specs.declared.Span.{Span}
 use Rattle.window.specs.Windows.{Inside, shown}
 
 module _ (span : Span) (fs : List ℕ) where
+  -- also of a span that reaches past the map below
+  pub length-shown_min : length (shown span fs) ≡ min span.count (length fs - span.first)
+  length-shown_min = length-take span.count (drop span.first fs) ∙ ap (min span.count) (length-drop span.first fs)
+
   pub length-shown : Inside span fs → length (shown span fs) ≡ span.count
-  length-shown inside =
-      let whole = length-take span.count (drop span.first fs) in
-      let rest = length-drop span.first fs in
-      omega arith
+  length-shown inside = let len = length-shown_min in omega arith
 
   pub get_or-shown : (i : ℕ) → i < span.count → slice_index (shown span fs) i ≡ slice_index fs (span.first + i)
   get_or-shown i h = get_or-take span.count (drop span.first fs) i 0 h ∙ get_or-drop span.first fs i 0
+
+  pub get_or-shown_at : (i : ℕ) → slice_index (shown span fs) i ≡ cond (nat_lt i span.count) (slice_index fs (span.first + i)) 0
+  get_or-shown_at i =
+      elim (cases_lt i span.count) [
+        | inl h ↦ get_or-shown i h ∙ cond_below i span.count _ 0 h
+        | inr past ↦ let len = length-shown_min in get_or_past (shown span fs) i 0 (omega arith) ∙ cond_above i span.count (slice_index fs (span.first + i)) 0 0 past refl
+      ]
 
   pub shown_lawful : (free : ℕ → Bool) → Inside span fs → Lawful fs free → Lawful (shown span fs) free
   shown_lawful free inside l =

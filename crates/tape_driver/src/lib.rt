@@ -42,7 +42,7 @@ fn rewind(tape: &mut Tape)
     tape.begin(Code::Rewind.into());
 }
 
-// Reads the block before the position, its last byte first.
+// Reads the block before the position, its last byte first. One line, but what it answers stands in a contract so.
 fn read_backward(tape: &mut Tape, buffer: &mut [u8]) -> usize
     ensures count { result ≡ min (length buffer.old) (length (heard 0x0C (meaning tape.old))) }
     ensures bytes { buffer.new ≡ take (length buffer.old) (heard 0x0C (meaning tape.old)) ++ drop result buffer.old }

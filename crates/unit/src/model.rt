@@ -3,7 +3,7 @@ ghost use Rattle.device.specs.Machine.{due, room};
 ghost use Rattle.unit.specs.Core.{Core, is_open, unknown_command};
 ghost use Rattle.unit.specs.CoreLaws.{CoreLaws};
 
-use crate::status::REFUSED;
+use crate::status::{FAILED, REFUSED};
 use device::interface::Begun;
 use std::error::Error;
 use std::fmt;
@@ -14,6 +14,12 @@ pub struct Fault {
     pub status: u8,
     pub sense: u8,
 }
+
+// The answer to a command that needs paper, a line, a byte or a block where none is left.
+pub const NOTHING_LEFT: Fault = Fault {
+    status: FAILED,
+    sense: 0x40,
+};
 
 impl Fault {
     // The answer to a code that is no command of the device.

@@ -7,8 +7,8 @@ ghost use Rattle.console.specs.Codes.{decoded};
 use super::{ConsoleModel, Phase};
 use device::interface::Begun;
 use unit::copying::{append, hand_out};
-use unit::model::{Fault, Model as DeviceModel};
-use unit::status::{ENDED, FAILED};
+use unit::model::{Fault, Model as DeviceModel, NOTHING_LEFT};
+use unit::status::ENDED;
 
 // A command of the console's own.
 #[derive(Clone, Copy, Debug, PartialEq, Eq)]
@@ -30,12 +30,6 @@ impl TryFrom<u8> for Code {
         }
     }
 }
-
-// The answer to a write without paper, and to a read without a line.
-const NOTHING_LEFT: Fault = Fault {
-    status: FAILED,
-    sense: 0x40,
-};
 
 impl ConsoleModel {
     // Opens a write on the paper that is left.

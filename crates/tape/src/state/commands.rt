@@ -8,14 +8,8 @@ use crate::code::{Code, Direction};
 use crate::reel::{BLOCKS, CAPACITY};
 use crate::reversing::hand_out_in;
 use device::interface::Begun;
-use unit::model::{Fault, Model as DeviceModel};
-use unit::status::{ENDED, FAILED};
-
-// No block or no byte is left where the command needs one.
-const NOTHING_LEFT: Fault = Fault {
-    status: FAILED,
-    sense: 0x40,
-};
+use unit::model::{Fault, Model as DeviceModel, NOTHING_LEFT};
+use unit::status::ENDED;
 
 impl TapeModel {
     // Whether a block is left and a byte is left behind the blocks before the position.

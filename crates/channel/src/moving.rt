@@ -11,6 +11,8 @@ use rules::pieces::{Piece, Pieces};
 // The bytes of a block: no piece is longer.
 const BLOCK: usize = 2048;
 
+// Storage, piece and device stay parameters here for the reason that stands in step.rt.
+
 // One piece upward, straight into storage.
 fn read_upward<D: Device>(storage: &mut [u8], piece: Piece, device: &mut D) -> usize
     requires { piece.first + piece.size ≤ length storage.old }

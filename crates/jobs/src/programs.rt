@@ -2,6 +2,8 @@ pub mod console_jobs;
 pub mod disk_jobs;
 pub mod tape_jobs;
 
+// What stands in the jobs' programs, as a guest writes it: numbers, apart from the enums of the code that reads them.
+
 // Command codes that every device knows, and the TIC.
 const NO_OPERATION: u8 = 0x03;
 

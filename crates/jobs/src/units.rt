@@ -3,7 +3,7 @@ use super::watched::Watched;
 use anyhow::Context;
 use console::state::access::new_console;
 use console::state::{Console, ConsoleModel};
-use disk::blocks::{BLOCK_SIZE, BLOCKS, Location};
+use disk::blocks::{BLOCK_SIZE, Location};
 use disk::state::DiskModel;
 use std::alloc::Global;
 use std::io;
@@ -42,11 +42,9 @@ impl Shown for TapeModel {
         let count = self.block_count();
         let position = self.position();
         println!(rt; "Tape, block count {count}, position past {position} of them")?;
-        for index in 0..count {
-            if let Some(block) = self.block(index) {
-                let length = block.len();
-                println!(rt; "  block {index}, length {length}: \"{}\"", Text(block))?;
-            }
+        for (index, block) in (0..count).filter_map(|at| self.block(at)).enumerate() {
+            let length = block.len();
+            println!(rt; "  block {index}, length {length}: \"{}\"", Text(block))?;
         }
         Ok(())
     }
@@ -60,12 +58,13 @@ fn length_without_zeros(bytes: &[u8]) -> usize {
         .map_or(0, |last| last + 1)
 }
 
-// A block that stands at this address of a disk, if it is not all zeros.
-fn show_block(rt: &HostRuntime, index: usize, address: usize, block: &[u8]) -> io::Result<()> {
+// A block of a disk, if it is not all zeros.
+fn show_block(rt: &HostRuntime, index: usize, block: &[u8]) -> io::Result<()> {
     let length = length_without_zeros(block);
     if length == 0 {
         return Ok(());
     }
+    let address = index.saturating_mul(BLOCK_SIZE);
     let front = Text(block.get(..length).unwrap_or(block));
     println!(rt;
         "  block {index} at {address:06X}, length {length} without the zeros at its end: \"{front}\""
@@ -80,10 +79,8 @@ impl Shown for DiskModel {
             )?,
             None => println!(rt; "Disk, location: none")?,
         }
-        for index in 0..BLOCKS {
-            if let Some(block) = self.block(index) {
-                show_block(rt, index, index * BLOCK_SIZE, block)?;
-            }
+        for (index, block) in self.bytes().chunks(BLOCK_SIZE).enumerate() {
+            show_block(rt, index, block)?;
         }
         Ok(())
     }

@@ -17,7 +17,7 @@ const ZERO: &[Format] = &[Format::Zero];
 
 const ONE: &[Format] = &[Format::One];
 
-// Command codes, one of each class that the rows need.
+// Command codes, one of each class that the rows need: numbers, as a guest writes them, apart from the enum that is checked.
 const WRITE: u8 = 0x01;
 
 const READ: u8 = 0x02;

@@ -4,7 +4,7 @@ use super::{
 };
 use crate::job::{ConsoleJob, Entry, Halt, Job};
 
-// Command codes of the console.
+// Command codes of the console, as a guest writes them.
 const WRITE: u8 = 0x09;
 
 const READ: u8 = 0x0A;

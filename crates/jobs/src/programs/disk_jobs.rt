@@ -1,7 +1,7 @@
 use super::{ANY, CHAIN_COMMAND, CHAIN_DATA, SENSE};
 use crate::job::{Entry, Job};
 
-// Command codes of the disk.
+// Command codes of the disk, as a guest writes them.
 const WRITE: u8 = 0x41;
 
 const READ: u8 = 0x42;

@@ -1,7 +1,7 @@
 use super::{ANY, CHAIN_COMMAND, CHAIN_DATA, INDIRECT, SENSE, SKIP, SUPPRESS_LENGTH, TIC};
 use crate::job::{Entry, Job};
 
-// Command codes of the tape.
+// Command codes of the tape, as a guest writes them.
 const WRITE: u8 = 0x01;
 
 const READ: u8 = 0x02;

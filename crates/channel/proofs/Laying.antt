@@ -1,8 +1,8 @@
 -- Bytes laid and gathered piece by piece.
-use Rattle.std.proofs.Common.{◌≡◌, ℕ, zero, suc, ◌+◌, ◌-◌, ◌<◌, ◌≤◌, min, Bool, true, false, List, [], ◌∷◌, ◌++◌, map, length, get_or, take, drop, set, sym, refl, ap, ◌∙◌, append_assoc, arith, length-drop, length-set, take-append-drop, length-take, drop-set-lt}
+use Rattle.std.proofs.Common.{◌≡◌, ℕ, zero, suc, ◌+◌, ◌-◌, ◌<◌, ◌≤◌, min, Bool, true, false, List, [], ◌∷◌, ◌++◌, map, length, get_or, reverse, take, drop, set, sym, refl, ap, ◌∙◌, append_assoc, arith, length-drop, length-set, take-append-drop, length-take, drop-set-lt}
 use Rattle.std.proofs.Math.ListN.{length-map}
 use Rattle.std.proofs.Math.Seq.{drop-nil}
-use Rattle.std.proofs.lemmas.List.{take_more_set, drop-drop, drop-append-le, drop_more, get_or-take, map-append}
+use Rattle.std.proofs.lemmas.List.{take_more_set, drop-drop, drop-append-le, drop_more, drop-set, take-set-le, length_push, length-reverse, reverse-append, map-append}
 use borrow.Rule.Slice.PartMut.{put_mid}
 use Rattle.device.specs.Machine.{Machine, due, room}
 use Rattle.rules.specs.declared.pieces.Piece.{Piece}
@@ -10,6 +10,7 @@ use Rattle.rules.specs.Areas.{onward}
 use Rattle.rules.specs.Areas.{run, area}
 use Rattle.channel.specs.Moves.{lay}
 use Rattle.format.specs.Bytes.{reader}
+use Rattle.format.specs.Laying.{put_at}
 use Rattle.device.specs.Laws.{Laws}
 use Rattle.device.proofs.Moving.{given_due, given_more, taken_more, taken_room}
 use Rattle.rules.specs.Areas.{sizes}
@@ -97,15 +98,6 @@ module _ {m : Machine} (laws : Laws m) (k : Bool) where
       ap (λ x. length (due (m.pending x))) f ∙ ap length (given_due laws p.size s) ∙ length-drop p.size (due (m.pending s)) in
       omega (arith, l)
 
-abbrev pub no_piece : Piece
-no_piece = record { first = 0; size = 0 }
-
--- the next piece of a table
-pub next_piece : (items : List Piece) (len i : ℕ) → i < len → i < length items → drop i (take len items) ≡ get_or items i no_piece ∷ drop (i + 1) (take len items)
-next_piece items len i h l =
-    let k : i < length (take len items) = simp length-take (omega arith) in
-    drop_more (take len items) i no_piece k ∙ ap (λ x. x ∷ drop (i + 1) (take len items)) (get_or-take len items i no_piece h)
-
 run_read : (v n : ℕ) (st : List ℕ) → v + n ≤ length st → map (reader st) (run false v n) ≡ take n (drop v st)
 unfolding run
 run_read v zero st h = refl
@@ -139,10 +131,41 @@ module _ {m : Machine} (laws : Laws m) (k : Bool) (b : ℕ → ℕ) where
       ∙ ap (λ j. room (m.pending s) - j) (length-map (run k p.first p.size) b ∙ length_run k p.first p.size) in
       omega (arith, l)
 
-pub back_step : (v n x : ℕ) (xs st : List ℕ) → 0 < n → lay (run true v n) (x ∷ xs) st ≡ lay (run true (v - 1) (n - 1)) xs (set st v x)
+-- one byte more behind those laid
+laid_push : (at x : ℕ) (xs st : List ℕ) → at + length xs < length st → laid at xs (set st (at + length xs) x) ≡ laid at (xs ++ x ∷ []) st
+laid_push at x xs st h =
+    let w : ℕ = at + length xs in
+    let e : w + 1 ≡ at + length (xs ++ x ∷ []) = omega (arith, length_push xs x) in
+    ap (λ y. y ++ (xs ++ drop w (set st w x))) (take-set-le at st w x (omega arith))
+    ∙ ap (λ y. take at st ++ (xs ++ y)) (drop-set st w x h)
+    ∙ ap (λ y. take at st ++ y) (sym (append_assoc xs (x ∷ []) (drop (w + 1) st)) ∙ ap (λ j. (xs ++ x ∷ []) ++ drop j st) e)
+
+-- bytes laid downward one by one are laid at once, turned round
+down_laid : (v n : ℕ) (bs st : List ℕ) → v < length st → n ≤ v + 1 → length bs ≤ n → lay (run true v n) bs st ≡ laid (v + 1 - length bs) (reverse bs) st
 unfolding run
-back_step v zero x xs st h = absurd (omega arith)
-back_step v (suc n) x xs st h = let e : n ≡ suc n - 1 = omega arith in ap (λ j. lay (run true (v - 1) j) xs (set st v x)) e
+down_laid v n [] st h fits few = sym (laid_none (v + 1 - 0) st)
+down_laid v zero (x ∷ bs) st h fits few = absurd (omega arith)
+down_laid v (suc n) (x ∷ []) st h fits few =
+    let e : v + 1 - 1 ≡ v = omega arith in
+    sym (ap (λ j. laid j (x ∷ []) st) e ∙ sym (laid_set v x [] st h) ∙ laid_none (v + 1) (set st v x))
+down_laid v (suc n) (x ∷ (y ∷ bs)) st h fits few =
+    let ys : List ℕ = reverse (y ∷ bs) in
+    let many : length ys ≡ length (y ∷ bs) = length-reverse (y ∷ bs) in
+    let a : ℕ = v + 1 - length (x ∷ (y ∷ bs)) in
+    let long : v - 1 < length (set st v x) = simp length-set (omega arith) in
+    let start : v - 1 + 1 - length (y ∷ bs) ≡ a = omega arith in
+    let end : v ≡ a + length ys = omega arith in
+    down_laid (v - 1) n (y ∷ bs) (set st v x) long (omega arith) (omega arith)
+    ∙ ap (λ j. laid j ys (set st v x)) start
+    ∙ ap (λ j. laid a ys (set st j x)) end
+    ∙ laid_push a x ys st (omega arith)
+    ∙ ap (λ z. laid a z st) (sym (reverse-append (x ∷ []) (y ∷ bs)))
+
+pub back_laid : (v n : ℕ) (bs st : List ℕ) → v < length st → n ≤ v + 1 → length bs ≤ n → put_at (v + 1 - length bs) (reverse bs) st ≡ lay (run true v n) bs st
+back_laid v n bs st h fits few =
+    let a : ℕ = v + 1 - length bs in
+    ap (λ y. take a st ++ (reverse bs ++ y)) (drop-drop (length (reverse bs)) a st)
+    ∙ sym (down_laid v n bs st h fits few)
 
 pub lay_take : (k : Bool) (v n : ℕ) (bs st : List ℕ) → lay (run k v n) (take n bs) st ≡ lay (run k v n) bs st
 unfolding run

@@ -5,29 +5,30 @@ ghost use Rattle.rules.specs.Areas.{listed, outside, run as addresses, area, siz
 ghost use Rattle.channel.specs.Moves.{lay};
 
 use device::interface::Device;
+use format::laying::put_at;
 use rules::pieces::{Piece, Pieces};
 
 // The bytes of a block: no piece is longer.
 const BLOCK: usize = 2048;
 
 // One piece upward, straight into storage.
-fn read_upward<D: Device>(storage: &mut [u8], first: usize, size: usize, device: &mut D) -> usize
-    requires { first + size ≤ length storage.old }
-    ensures moved { result ≡ min size (length (due (D.machine.pending (D.state device.old)))) }
-    ensures bytes { storage.new ≡ lay (addresses false first size) (due (D.machine.pending (D.state device.old))) storage.old }
-    ensures became { D.state device.new ≡ D.machine.given size (D.state device.old) }
+fn read_upward<D: Device>(storage: &mut [u8], piece: Piece, device: &mut D) -> usize
+    requires { piece.first + piece.size ≤ length storage.old }
+    ensures moved { result ≡ min piece.size (length (due (D.machine.pending (D.state device.old)))) }
+    ensures bytes { storage.new ≡ lay (addresses false piece.first piece.size) (due (D.machine.pending (D.state device.old))) storage.old }
+    ensures became { D.state device.new ≡ D.machine.given piece.size (D.state device.old) }
 {
+    let Piece { first, size } = piece;
     device.give(&mut storage[first..first + size])
 }
 
-// Bytes laid from an address down.
-fn store_downward(storage: &mut [u8], first: usize, size: usize, bytes: &[u8])
-    requires { (first < length storage.old) × ((size ≤ first + 1) × (length bytes.now ≤ size)) }
-    ensures { storage.new ≡ lay (addresses true first size) bytes.now storage.old }
+// Bytes laid from an address down: turned round, they go up to it.
+fn store_downward(storage: &mut [u8], first: usize, size: usize, bytes: &mut [u8])
+    requires { (first < length storage.old) × ((size ≤ first + 1) × (length bytes.old ≤ size)) }
+    ensures { storage.new ≡ lay (addresses true first size) bytes.old storage.old }
 {
-    for i in 0..bytes.len() {
-        storage[first - i] = bytes[i];
-    }
+    bytes.reverse();
+    put_at(storage, first + 1 - bytes.len(), bytes);
 }
 
 // One piece downward, through a scratch as long as the piece.
@@ -44,18 +45,18 @@ fn read_through<D: Device>(
 {
     let size = scratch.len();
     let got = device.give(scratch);
-    store_downward(storage, first, size, &scratch[..got]);
+    store_downward(storage, first, size, &mut scratch[..got]);
     got
 }
 
-fn read_downward<D: Device>(storage: &mut [u8], first: usize, size: usize, device: &mut D) -> usize
-    requires { (first < length storage.old) × ((size ≤ first + 1) × (size ≤ 2048)) }
-    ensures moved { result ≡ min size (length (due (D.machine.pending (D.state device.old)))) }
-    ensures bytes { storage.new ≡ lay (addresses true first size) (due (D.machine.pending (D.state device.old))) storage.old }
-    ensures became { D.state device.new ≡ D.machine.given size (D.state device.old) }
+fn read_downward<D: Device>(storage: &mut [u8], piece: Piece, device: &mut D) -> usize
+    requires { (piece.first < length storage.old) × ((piece.size ≤ piece.first + 1) × (piece.size ≤ 2048)) }
+    ensures moved { result ≡ min piece.size (length (due (D.machine.pending (D.state device.old)))) }
+    ensures bytes { storage.new ≡ lay (addresses true piece.first piece.size) (due (D.machine.pending (D.state device.old))) storage.old }
+    ensures became { D.state device.new ≡ D.machine.given piece.size (D.state device.old) }
 {
     let mut scratch = [0u8; BLOCK];
-    read_through(storage, first, &mut scratch[..size], device)
+    read_through(storage, piece.first, &mut scratch[..piece.size], device)
 }
 
 fn read_piece<D: Device>(storage: &mut [u8], backward: bool, piece: Piece, device: &mut D) -> usize
@@ -65,13 +66,13 @@ fn read_piece<D: Device>(storage: &mut [u8], backward: bool, piece: Piece, devic
     ensures became { D.state device.new ≡ D.machine.given piece.size (D.state device.old) }
 {
     if backward {
-        read_downward(storage, piece.first, piece.size, device)
+        read_downward(storage, piece, device)
     } else {
-        read_upward(storage, piece.first, piece.size, device)
+        read_upward(storage, piece, device)
     }
 }
 
-// A reading command: from the device into storage.
+// A reading command: from the device into storage. The count is a parameter of its own, since it bounds the sum.
 pub(crate) fn read_pieces<D: Device>(
     storage: &mut [u8],
     backward: bool,
@@ -85,17 +86,19 @@ pub(crate) fn read_pieces<D: Device>(
     ensures became { D.state device.new ≡ D.machine.given (sizes (listed pieces.now)) (D.state device.old) }
 {
     let mut moved = 0;
-    for i in 0..pieces.len {
-        moved += read_piece(storage, backward, pieces.items[i], device);
+    for piece in pieces {
+        moved += read_piece(storage, backward, *piece, device);
     }
     moved
 }
 
-fn write_piece<D: Device>(storage: &[u8], first: usize, size: usize, device: &mut D) -> usize
-    requires { first + size ≤ length storage.now }
-    ensures moved { result ≡ min size (room (D.machine.pending (D.state device.old))) }
-    ensures became { D.state device.new ≡ D.machine.taken (map (reader storage.now) (addresses false first size)) (D.state device.old) }
+// One piece upward, straight out of storage.
+fn write_piece<D: Device>(storage: &[u8], piece: Piece, device: &mut D) -> usize
+    requires { piece.first + piece.size ≤ length storage.now }
+    ensures moved { result ≡ min piece.size (room (D.machine.pending (D.state device.old))) }
+    ensures became { D.state device.new ≡ D.machine.taken (map (reader storage.now) (addresses false piece.first piece.size)) (D.state device.old) }
 {
+    let Piece { first, size } = piece;
     device.take(&storage[first..first + size])
 }
 
@@ -111,9 +114,8 @@ pub(crate) fn write_pieces<D: Device>(
     ensures became { D.state device.new ≡ D.machine.taken (map (reader storage.now) (area false (listed pieces.now))) (D.state device.old) }
 {
     let mut moved = 0;
-    for i in 0..pieces.len {
-        let piece = pieces.items[i];
-        moved += write_piece(storage, piece.first, piece.size, device);
+    for piece in pieces {
+        moved += write_piece(storage, *piece, device);
     }
     moved
 }

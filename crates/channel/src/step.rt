@@ -16,12 +16,20 @@ use rules::place::{Place, Taken};
 use rules::storage::Plain;
 use rules::taking_up::take_up;
 
-// Chaining done, and a program that ends by itself.
+// Device status: a command is done; none is begun.
 const CHANNEL_END_DEVICE_END: u8 = 0x0C;
-// Subchannel status.
+
+const NO_STATUS: u8 = 0;
+
+// Subchannel status: nothing is wrong; the count and the bytes moved differ; a rule is broken.
+const NOTHING_WRONG: u8 = 0;
+
 const INCORRECT_LENGTH: u8 = 0x40;
 
 const PROGRAM_CHECK: u8 = 0x20;
+
+// Storage, CCW and device stay three parameters. Tried as a struct: it asks a lifetime for each of them and a clause of
+// each method that both `&mut` stay its caller's, and `Sound` as its ghost field is no proposition, so that each use opens it.
 
 // A reading CCW without SKIP.
 fn read_area<D: Device>(storage: &mut [u8], taken: &Taken, device: &mut D) -> usize
@@ -31,13 +39,9 @@ fn read_area<D: Device>(storage: &mut [u8], taken: &Taken, device: &mut D) -> us
     ensures became { D.state device.new ≡ D.machine.given taken.now.ccw.value.count (D.state device.old) }
     ensures bounded { result ≤ taken.now.ccw.value.count }
 {
-    read_pieces(
-        storage,
-        Class::from(taken.code).backward(),
-        &taken.pieces,
-        taken.ccw.value.count,
-        device,
-    )
+    let backward = Class::from(taken.code).backward();
+    let count = taken.ccw.value.count;
+    read_pieces(storage, backward, &taken.pieces, count, device)
 }
 
 // A reading CCW with SKIP.
@@ -59,12 +63,6 @@ fn write_area<D: Device>(storage: &[u8], taken: &Taken, device: &mut D) -> usize
     write_pieces(storage, &taken.pieces, taken.ccw.value.count, device)
 }
 
-fn reads(code: u8) -> bool
-    ensures { result ≡ reading code }
-{
-    Class::from(code).reads()
-}
-
 // Moves the bytes of one CCW, and answers how many.
 fn move_area<D: Device>(storage: &mut [u8], taken: &Taken, device: &mut D) -> usize
     requires { Sound (reach storage.old) (cell_of taken.now) }
@@ -73,13 +71,13 @@ fn move_area<D: Device>(storage: &mut [u8], taken: &Taken, device: &mut D) -> us
     ensures became { D.state device.new ≡ moved_state D.machine (cell_of taken.now) (gathered (cell_of taken.now) storage.old) (D.state device.old) }
     ensures bounded { result ≤ taken.now.ccw.value.count }
 {
-    if !reads(taken.code) {
-        return write_area(storage, taken, device);
+    if !Class::from(taken.code).reads() {
+        write_area(storage, taken, device)
+    } else if taken.ccw.value.flags.skip {
+        skip_area(taken, device)
+    } else {
+        read_area(storage, taken, device)
     }
-    if taken.ccw.value.flags.skip {
-        return skip_area(taken, device);
-    }
-    read_area(storage, taken, device)
 }
 
 fn finish(ccw: Ccw, status: u8, residual: u16, incorrect: bool) -> Next
@@ -88,7 +86,11 @@ fn finish(ccw: Ccw, status: u8, residual: u16, incorrect: bool) -> Next
     if ccw.flags.cc && !ccw.flags.cd && status == CHANNEL_END_DEVICE_END && !incorrect {
         return Next::Command;
     }
-    let subchannel_status = if incorrect { INCORRECT_LENGTH } else { 0 };
+    let subchannel_status = if incorrect {
+        INCORRECT_LENGTH
+    } else {
+        NOTHING_WRONG
+    };
     Next::End {
         device_status: status,
         subchannel_status,
@@ -139,9 +141,21 @@ fn run_ccw<D: Device>(storage: &mut [u8], taken: &Taken, owed: u32, device: &mut
                 taken.ccw.value.count,
                 false,
             ),
-            Begun::Open { least, most: _ } => move_and_settle(storage, taken, least, device),
+            Begun::Open { least, .. } => move_and_settle(storage, taken, least, device),
         },
     }
+}
+
+// A run at a later place than its first.
+fn later(address: u32, command: Option<u8>, owed: u32) -> Run
+    ensures { result ≡ Run.Running (record { address = address; first = false; command = command }) owed }
+{
+    let place = Place {
+        address,
+        first: false,
+        command,
+    };
+    Run::Running { place, owed }
 }
 
 // The run after the CCW at an address, with this code in force.
@@ -149,38 +163,22 @@ fn go_on(address: u32, code: u8, next: Next) -> Run
     requires { address + 8 ≤ 2 ^ 31 }
     ensures { result ≡ onwards address code next }
 {
-    let address = address + 8;
+    let ccw_address = address + 8;
     match next {
-        Next::Data { owed } => Run::Running {
-            place: Place {
-                address,
-                first: false,
-                command: Some(code),
-            },
-            owed,
-        },
-        Next::Command => Run::Running {
-            place: Place {
-                address,
-                first: false,
-                command: None,
-            },
-            owed: 0,
-        },
+        Next::Data { owed } => later(ccw_address, Some(code), owed),
+        Next::Command => later(ccw_address, None, 0),
         Next::End {
             device_status,
             subchannel_status,
             residual,
-        } => {
-            Run::Ended {
-                status: StatusWord {
-                    ccw_address: address,
-                    device_status,
-                    subchannel_status,
-                    residual,
-                },
-            }
-        }
+        } => Run::Ended {
+            status: StatusWord {
+                ccw_address,
+                device_status,
+                subchannel_status,
+                residual,
+            },
+        },
     }
 }
 
@@ -191,7 +189,7 @@ pub fn close<D: Device>(command: Option<u8>, device: &mut D) -> u8
 {
     match command {
         Some(_) => device.end(),
-        None => 0,
+        None => NO_STATUS,
     }
 }
 

@@ -1,5 +1,5 @@
 -- Up to k steps: one step more, the end, and what the count says.
-use Rattle.std.proofs.Common.{◌≡◌, ℕ, zero, suc, ◌-◌, ◌<◌, true, false, sym, refl, ap, ◌∙◌, subst, inl, inr, arith}
+use Rattle.std.proofs.Common.{◌≡◌, ℕ, zero, suc, ◌+◌, ◌-◌, ◌<◌, true, false, sym, refl, ap, ◌∙◌, subst, inl, inr, arith}
 use Rattle.std.proofs.lemmas.Bool.{cond-true, cond-false, cases_Bool}
 use Rattle.format.specs.declared.ccw.Format.{Format}
 use Rattle.device.specs.Machine.{Machine}
@@ -51,3 +51,28 @@ module _ (m : Machine) (F : Format) where
             subst (λ (r : ℕ × World m). Counted m F (suc k) w r.0 r.1) (sym (cond-false (is_ended w.run) (0, w) _ e))
             (one_more k w (advanced m F k (stepped m F w)).0 (advanced m F k (stepped m F w)).1 e (counted k (stepped m F w)))
       ]
+
+  -- n steps taken and j still to come are the k steps
+  abbrev pub Under : ℕ → ℕ → ℕ → World m → World m → Type 0
+  Under n j k here before = ◌≡◌ {A = ℕ × World m} (n + (advanced m F j here).0, (advanced m F j here).1) (advanced m F k before)
+
+  -- one of them is taken
+  pub one_taken : (n j i k : ℕ) (here after before : World m) → j ≡ suc i → is_ended here.run ≡ false → after ≡ stepped m F here → Under n j k here before → Under (n + 1) i k after before
+  one_taken n j i k here after before left runs e under =
+      let rest = advanced m F i after in
+      let fewer : j - 1 ≡ i = omega arith in
+      let same : advanced m F j here ≡ (suc rest.0, rest.1) =
+      advanced_step j here (omega arith) runs
+      ∙ ap (λ x. (suc (advanced m F x (stepped m F here)).0, (advanced m F x (stepped m F here)).1)) fewer
+      ∙ ap (λ (w : World m). (suc (advanced m F i w).0, (advanced m F i w).1)) (sym e) in
+      let shift : n + 1 + rest.0 ≡ n + suc rest.0 = omega arith in
+      ap (λ x. (x, rest.1)) shift ∙ ap (λ (r : ℕ × World m). (n + r.0, r.1)) (sym same) ∙ under
+
+  -- none is still to come
+  pub all_taken : (n j k : ℕ) (here before : World m) → advanced m F j here ≡ (0, here) → Under n j k here before → ◌≡◌ {A = ℕ × World m} (n, here) (advanced m F k before)
+  all_taken n j k here before none under =
+      let zero_more : n ≡ n + 0 = omega arith in
+      ap (λ x. (x, here)) zero_more ∙ ap (λ (r : ℕ × World m). (n + r.0, r.1)) (sym none) ∙ under
+
+  pub counted_at : (n k : ℕ) (here before : World m) → ◌≡◌ {A = ℕ × World m} (n, here) (advanced m F k before) → Counted m F k before n here
+  counted_at n k here before e = subst (λ (r : ℕ × World m). Counted m F k before r.0 r.1) (sym e) (counted k before)

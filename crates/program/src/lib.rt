@@ -2,7 +2,7 @@
 // status word.
 #![tactic(auto)]
 
-ghost use Rattle.std.specs.Prelude.{◌≡◌, ℕ, not, ◌&&◌, List, nat_lt};
+ghost use Rattle.std.specs.Prelude.{◌≡◌, ℕ, not, List};
 ghost use Rattle.device.specs.Machine.{Machine};
 ghost use Rattle.channel.specs.Steps.{World, started, stepped, ChangesOnlyArea, advanced, is_ended, Counted, halted, word_of};
 
@@ -14,14 +14,14 @@ use format::status::StatusWord;
 use rules::place::Place;
 
 // A channel program under way: how its CCWs are laid out, and where it stands.
-#[derive(Clone, Copy)]
+#[derive(Clone, Copy, Debug, PartialEq, Eq)]
 pub struct Program {
     pub format: Format,
     pub run: Run,
 }
 
 // What up to k steps came to.
-#[derive(Clone, Copy)]
+#[derive(Clone, Copy, Debug, Default, PartialEq, Eq)]
 pub struct Progress {
     pub count: u64,
     pub ended: bool,
@@ -51,15 +51,6 @@ impl Program {
             (stepped D.machine self.old.format (record { storage = storage.old; state = D.state device.old; run = self.old.run })) }
         ensures area { ChangesOnlyArea self.old.format self.old.run storage.old storage.new }
     {
-        self.step_once(storage, device);
-    }
-
-    fn step_once<D: Device>(&mut self, storage: &mut [u8], device: &mut D)
-        ensures format { self.new.format ≡ self.old.format }
-        ensures world { ◌≡◌ {A = World D.machine}
-            (record { storage = storage.new; state = D.state device.new; run = self.new.run })
-            (stepped D.machine self.old.format (record { storage = storage.old; state = D.state device.old; run = self.old.run })) }
-    {
         self.run = step_run(storage, self.format, self.run, device);
     }
 
@@ -67,16 +58,7 @@ impl Program {
     pub fn is_running(&self) -> bool
         ensures { result ≡ not (is_ended self.now.run) }
     {
-        match self.run {
-            Run::Running { place: _, owed: _ } => true,
-            Run::Ended { status: _ } => false,
-        }
-    }
-
-    fn goes_on(&self, count: u64, limit: u64) -> bool
-        ensures { result ≡ (nat_lt count limit && not (is_ended self.now.run)) }
-    {
-        count < limit && self.is_running()
+        matches!(self.run, Run::Running { .. })
     }
 
     // Up to `limit` CCWs, or fewer if the program ends.
@@ -91,13 +73,14 @@ impl Program {
             result.count
             (record { storage = storage.new; state = D.state device.new; run = self.new.run }) }
     {
-        let mut count = 0;
-        while self.goes_on(count, limit) {
+        for count in 0..limit {
+            if !self.is_running() {
+                return Progress { count, ended: true };
+            }
             self.step(storage, device);
-            count += 1;
         }
         Progress {
-            count,
+            count: limit,
             ended: !self.is_running(),
         }
     }
@@ -109,12 +92,11 @@ impl Program {
             (record { storage = storage; state = D.state device.new; run = self.new.run })
             (halted D.machine (record { storage = storage; state = D.state device.old; run = self.old.run })) }
     {
-        if let Run::Running { place, owed: _ } = self.run {
+        if let Run::Running { place, .. } = self.run {
             let status = StatusWord {
                 ccw_address: if place.first { 0 } else { place.address },
                 device_status: close(place.command, device),
-                subchannel_status: 0,
-                residual: 0,
+                ..StatusWord::default()
             };
             self.run = Run::Ended { status };
         }
@@ -125,7 +107,7 @@ impl Program {
         ensures { result ≡ word_of self.now.run }
     {
         match self.run {
-            Run::Running { place: _, owed: _ } => None,
+            Run::Running { .. } => None,
             Run::Ended { status } => Some(status),
         }
     }

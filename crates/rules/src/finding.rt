@@ -10,6 +10,8 @@ use format::ccw::Format;
 use format::class::Class;
 use format::refusal::Refusal;
 
+// Storage and format stay two parameters: a struct of both would only stand before each name, and callers would make it.
+
 // Rules 1 and 2.
 fn check_address(limit: usize, address: u32) -> Result<(), Broken>
     ensures { (rest : Outcome ℕ Fault) → past result rest ≡ aligned limit address rest }

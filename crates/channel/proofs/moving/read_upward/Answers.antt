@@ -3,15 +3,10 @@ use Rattle.device.specs.Machine.{due}
 use Rattle.channel.proofs.Laying.{length_part, piece_laid}
 use Rattle.channel.proofs.moving.read_upward.Goals as goal
 
-pub returns : goal.returns
-returns g c =
-    let m = g.D.Device.machine in
-    let s = g.D.Device.state c.args.device.now in
-    let len = length_part c.args.first c.args.size c.args.storage.now c.requires in
-    let count = c.give.ensures.count ∙ ap (λ x. min x (length (due (m.pending s)))) len in
+pub returns-clause-bytes : goal.returns-clause-bytes
+returns-clause-bytes g c =
+    let l = due (g.D.Device.machine.pending (g.D.Device.state c.args.device.now)) in
+    let len = length_part c.args.piece.first c.args.piece.size c.args.storage.now c.requires in
+    let count = c.give.ensures.count ∙ ap (λ x. min x (length l)) len in
     let bytes = rw len at c.give.ensures.bytes in
-    record {
-      moved = count;
-      bytes = piece_laid c.args.first c.args.size _ c.give.result (due (m.pending s)) c.args.storage.now c.give.new.buffer (omega arith) c.requires count bytes;
-      became = c.give.ensures.became ∙ ap (λ x. m.given x s) len;
-    }
+    piece_laid c.args.piece.first c.args.piece.size _ c.give.result l c.args.storage.now c.give.new.buffer (omega arith) c.requires count bytes

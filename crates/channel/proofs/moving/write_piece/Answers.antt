@@ -1,13 +1,8 @@
-use Rattle.std.proofs.Common.{min, ap, ◌∙◌}
-use Rattle.device.specs.Machine.{room}
-use Rattle.channel.proofs.Laying.{length_part, piece_read}
+use Rattle.std.proofs.Common.{ap, ◌∙◌}
+use Rattle.channel.proofs.Laying.{piece_read}
 use Rattle.channel.proofs.moving.write_piece.Goals as goal
 
-pub returns : goal.returns
-returns g c =
-    let m = g.D.Device.machine in
-    let s = g.D.Device.state c.args.device.now in
-    record {
-      moved = c.take.ensures.count ∙ ap (λ x. min x (room (m.pending s))) (length_part c.args.first c.args.size c.args.storage.now c.requires);
-      became = c.take.ensures.became ∙ ap (λ x. m.taken x s) (piece_read c.args.first c.args.size c.args.storage.now c.requires);
-    }
+pub returns-clause-became : goal.returns-clause-became
+returns-clause-became g c =
+    let d = g.D.Device in
+    c.take.ensures.became ∙ ap (λ x. d.machine.taken x (d.state c.args.device.now)) (piece_read c.args.piece.first c.args.piece.size c.args.storage.now c.requires)

@@ -11,7 +11,7 @@ pub read_pieces-requires : goal.read_pieces-requires
 read_pieces-requires g c =
     let t = c.args.taken.now in
     let st = c.args.storage.now in
-    let b : c.backward.result ≡ backward t.code = c.backward.ensures ∙ ap backwards c.from.ensures in
+    let b : c.backward-backward.result ≡ backward t.code = c.backward-backward.ensures ∙ ap backwards c.from.ensures in
     let fits : reach st ≤ length st = omega arith in
     rw b (shaped_wider (backward t.code) (reach st) (length st) _ t.ccw.value.count (listed t.pieces) fits c.requires.shaped)
 
@@ -22,7 +22,7 @@ returns g c =
     let t = c.args.taken.now in
     let st = c.args.storage.now in
     let count = t.ccw.value.count in
-    let b : c.backward.result ≡ backward t.code = c.backward.ensures ∙ ap backwards c.from.ensures in
+    let b : c.backward-backward.result ≡ backward t.code = c.backward-backward.ensures ∙ ap backwards c.from.ensures in
     let e = shaped_sizes (backward t.code) (reach st) _ count (listed t.pieces) c.requires.shaped in
     let done = c.read_pieces.ensures in
     record {

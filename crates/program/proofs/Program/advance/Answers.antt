@@ -1,56 +1,52 @@
-use Rattle.std.proofs.Common.{◌≡◌, ℕ, suc, ◌+◌, ◌-◌, ◌<◌, not, ltb, sym, ap, ◌∙◌, subst, inl, inr, arith, rules}
-use Rattle.std.proofs.lemmas.Bool.{ltb-true, ltb-false, and_parts, and_cases, not-true, not-false}
-use Rattle.channel.specs.Steps.{World, stepped, is_ended, advanced, Counted}
-use Rattle.program.proofs.Advancing.{advanced_none, advanced_ended, advanced_step, counted}
+use Rattle.std.proofs.Common.{◌≡◌, suc, ◌+◌, ◌-◌, sym, ap, ◌∙◌, arith}
+use Rattle.std.proofs.lemmas.Bool.{not-true, not-false}
+use Rattle.channel.specs.Steps.{World, stepped, is_ended}
+use Rattle.program.proofs.Advancing.{advanced_none, advanced_ended, one_taken, all_taken, counted_at}
 use Rattle.program.proofs.Program.advance.Goals as goal
 
-pub loop-self-preserved : goal.loop-self-preserved
-loop-self-preserved g c =
+-- the program ends before `limit`
+pub returns-then-not-is_running-clause-world : goal.returns-then-not-is_running-clause-world
+returns-then-not-is_running-clause-world g c =
     let d = g.D.Device in
     let m = d.machine in
     let F = c.args.self.now.format in
-    let count = c.loop-self.count in
-    let limit = c.args.limit in
-    let inv = c.loop-self.invariant in
-    let here : World m = record { storage = c.loop-self.storage; state = d.state c.loop-self.device; run = c.loop-self.self.run } in
-    let after : World m = record { storage = c.step.new.storage; state = d.state c.step.new.device; run = c.step.new.self.run } in
-    let t = and_parts (ltb count limit) (not (is_ended here.run)) (sym c.goes_on.ensures ∙ c.loop-self-test.true) in
-    let less : count < limit = ltb-true count limit t.0 in
-    let some : 0 < limit - count = omega arith in
-    let e : after ≡ stepped m F here = c.step.ensures.world ∙ ap (λ f. stepped m f here) inv.0 in
-    let one : limit - count - 1 ≡ limit - (count + 1) = omega arith in
-    let more = advanced_step m F (limit - count) here some (not-true (is_ended here.run) t.1) in
-    let rest = advanced m F (limit - (count + 1)) after in
-    let same : advanced m F (limit - count) here ≡ (suc rest.0, rest.1) =
-    more ∙ ap (λ j. (suc (advanced m F j (stepped m F here)).0, (advanced m F j (stepped m F here)).1)) one ∙ ap (λ (w : World m). (suc (advanced m F (limit - (count + 1)) w).0, (advanced m F (limit - (count + 1)) w).1)) (sym e) in
-    let shift : count + 1 + rest.0 ≡ count + suc rest.0 = omega arith in (
-      c.step.ensures.format ∙ inv.0,
-      omega arith,
-      ap (λ j. (j, rest.1)) shift ∙ ap (λ (r : ℕ × World m). (count + r.0, r.1)) (sym same) ∙ inv.2,
-    )
-
-pub returns : goal.returns
-returns g c =
-    let d = g.D.Device in
-    let m = d.machine in
-    let F = c.args.self.now.format in
-    let count = c.loop-self.count in
-    let limit = c.args.limit in
-    let inv = c.loop-self.invariant in
-    let here : World m = record { storage = c.loop-self.storage; state = d.state c.loop-self.device; run = c.loop-self.self.run } in
+    let left = c.args.limit - c.loop-count.count in
+    let here : World m = record { storage = c.loop-count.storage; state = d.state c.loop-count.device; run = c.loop-count.self.run } in
     let before : World m = record { storage = c.args.storage.now; state = d.state c.args.device.now; run = c.args.self.now.run } in
-    let stop = and_cases (ltb count limit) (not (is_ended here.run)) (sym c.goes_on.ensures ∙ c.loop-self-test.false) in
-    let none : advanced m F (limit - count) here ≡ (0, here) =
-    elim stop [
-      | inl full ↦ advanced_none m F (limit - count) here (let h = ltb-false count limit full in omega arith)
-      | inr over ↦ advanced_ended m F (limit - count) here (not-false (is_ended here.run) over)
-    ] in
-    let zero_more : count ≡ count + 0 = omega arith in
-    let world : ◌≡◌ {A = ℕ × World m} (count, here) (advanced m F limit before) =
-    ap (λ j. (j, here)) zero_more ∙ ap (λ (r : ℕ × World m). (count + r.0, r.1)) (sym none) ∙ inv.2 in
-    record {
-      format = inv.0;
-      world = world;
-      ended = search rules;
-      counted = subst (λ (r : ℕ × World m). Counted m F limit before r.0 r.1) (sym world) (counted m F limit before);
-    }
+    let over = not-false (is_ended here.run) (sym c.is_running.ensures ∙ c.if-not-is_running.true) in
+    all_taken m F c.loop-count.count left c.args.limit here before (advanced_ended m F left here over) c.loop-count.invariant.1
+
+pub returns-then-not-is_running-clause-counted : goal.returns-then-not-is_running-clause-counted
+returns-then-not-is_running-clause-counted g c =
+    counted_at g.D.Device.machine c.args.self.now.format c.loop-count.count c.args.limit _ _ (returns-then-not-is_running-clause-world g c)
+
+pub loop-count-preserved : goal.loop-count-preserved
+loop-count-preserved g c =
+    let d = g.D.Device in
+    let m = d.machine in
+    let F = c.args.self.now.format in
+    let count = c.loop-count.count in
+    let limit = c.args.limit in
+    let here : World m = record { storage = c.loop-count.storage; state = d.state c.loop-count.device; run = c.loop-count.self.run } in
+    let before : World m = record { storage = c.args.storage.now; state = d.state c.args.device.now; run = c.args.self.now.run } in
+    let after : World m = record { storage = c.step.new.storage; state = d.state c.step.new.device; run = c.step.new.self.run } in
+    let runs = not-true (is_ended here.run) (sym c.is_running.ensures ∙ c.if-not-is_running.false) in
+    let e : after ≡ stepped m F here = c.step.ensures.world ∙ ap (λ f. stepped m f here) c.loop-count.invariant.0 in
+    let left : limit - count ≡ suc (limit - (count + 1)) = omega arith in
+    (c.step.ensures.format ∙ c.loop-count.invariant.0, one_taken m F count (limit - count) (limit - (count + 1)) limit here after before left runs e c.loop-count.invariant.1)
+
+-- all of `limit` are taken
+pub returns-clause-world : goal.returns-clause-world
+returns-clause-world g c =
+    let d = g.D.Device in
+    let m = d.machine in
+    let F = c.args.self.now.format in
+    let count = c.loop-count.count in
+    let limit = c.args.limit in
+    let here : World m = record { storage = c.loop-count.storage; state = d.state c.loop-count.device; run = c.loop-count.self.run } in
+    let before : World m = record { storage = c.args.storage.now; state = d.state c.args.device.now; run = c.args.self.now.run } in
+    let end : limit ≡ count = omega arith in
+    ap (λ n. (n, here)) end ∙ all_taken m F count (limit - count) limit here before (advanced_none m F (limit - count) here (omega arith)) c.loop-count.invariant.1
+
+pub returns-clause-counted : goal.returns-clause-counted
+returns-clause-counted g c = counted_at g.D.Device.machine c.args.self.now.format c.args.limit c.args.limit _ _ (returns-clause-world g c)

@@ -3,12 +3,11 @@ ghost use Rattle.rules.specs.Areas.{listed};
 ghost use Rattle.walk.specs.Walks.{cells_of};
 ghost use Rattle.translate.specs.Translations.{piece_in, data_pages};
 
+use map::interface::MOST_PAGES;
 use rules::pieces::Pieces;
 use walk::cells::Cells;
 
-// The most pages that a guest has, and the bytes of each.
-const MOST_PAGES: usize = 128;
-
+// The bytes of a page.
 const PAGE_SIZE: usize = 4096;
 
 // For each page of a guest whether a program has data in it.

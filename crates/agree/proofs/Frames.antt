@@ -1,20 +1,18 @@
 -- Where cells, the closing TIC and the words of a program frame stand.
 use Rattle.std.proofs.Common.{◌≡◌, ℕ, zero, suc, ◌+◌, ◌-◌, ◌*◌, ◌<◌, ◌≤◌, List, [], ◌∷◌, ◌++◌, map, length, get_or, replicate, Some, None, Option, sym, refl, ap, ◌∙◌, append_assoc, arith, length-append}
-use Rattle.std.proofs.Math.ListN.{length-map, length-replicate}
+use Rattle.std.proofs.Math.ListN.{length-map}
 use Rattle.std.proofs.lemmas.List.{get_or_append_left, get_or-append-add, get_or-append_right, get_or_at, get_or-map}
 use Rattle.format.specs.declared.ccw.Ccw.{Ccw}
 use Rattle.format.specs.declared.ccw.Format.TheVariants.{One}
 use Rattle.format.specs.Bytes.{Reader, word_at, word_bytes}
 use Rattle.format.specs.Layouts.{ccw_at, ccw_bytes}
-use Rattle.rules.specs.declared.pieces.Piece.{Piece}
 use Rattle.rules.specs.TakingUp.{Cell}
 use Rattle.walk.specs.SoundTrails.{cell, pieces_in}
 use Rattle.walk.specs.Walks.{Trail}
 use Rattle.translate.specs.Frames.{cell_ccw, behind_list, cells_bytes, transfer_to, closing_bytes, first_of, words_of, words_bytes, filled, cells_part, frame_of}
+use Rattle.translate.proofs.Accepted.{length-words_of}
+use Rattle.translate.proofs.Puts.{no_piece, length-filled}
 use Rattle.agree.proofs.Parts.{joined, length-joined, part_at, ccw_stands, word_stands}
-
-abbrev pub no_piece : Piece
-no_piece = record { first = 0; size = 0 }
 
 no_ccw : Ccw
 no_ccw = transfer_to 0
@@ -83,12 +81,6 @@ length-all : (w : Trail) → length (all_ccws w) ≤ length w.cells + 1
 unfolding all_ccws
 length-all w = omega (arith, length-append (ccws_of w.cells 1024) (closing w.closes), length-ccws w.cells 1024, closing_short w.closes)
 
--- words, by their number
-length-words : (ts : List Cell) → length (words_of ts) ≡ pieces_in ts
-unfolding words_of pieces_in
-length-words [] = refl
-length-words (t ∷ ts) = length-append (map first_of t.pieces) (words_of ts) ∙ omega (arith, length-map t.pieces first_of, length-words ts)
-
 pub list_end : (ts : List Cell) (i : ℕ) → i < length ts → words_before ts i + length (cell ts i).pieces ≤ pieces_in ts
 unfolding words_before pieces_in
 list_end [] i h = let z : ⊥ = omega arith in absurd z
@@ -111,9 +103,6 @@ word_of (t ∷ ts) (suc i) k h l =
     ∙ get_or-append-add (map first_of t.pieces) (words_of ts) (words_before ts i + k) 0
     ∙ word_of ts i k (omega arith) l
 
-length-filled : (n : ℕ) (bytes : List ℕ) → length bytes ≤ n → length (filled n bytes) ≡ n
-length-filled n bytes h = length-append bytes (replicate (n - length bytes) 0) ∙ omega (arith, length-replicate {A = ℕ} (n - length bytes) 0)
-
 eight : (w : Ccw) → length (ccw_bytes w) ≡ 8
 eight w = refl
 
@@ -128,7 +117,7 @@ module _ (place : ℕ → ℕ) (w : Trail) (few : length w.cells ≤ 64) (short 
   all_words = map place (words_of w.cells)
 
   words_length : (length (words_bytes all_words) ≡ 4 * length all_words) × (length all_words ≡ pieces_in w.cells)
-  words_length = (ap length (words_joined all_words) ∙ length-joined 4 word_bytes four all_words, length-map (words_of w.cells) place ∙ length-words w.cells)
+  words_length = (ap length (words_joined all_words) ∙ length-joined 4 word_bytes four all_words, length-map (words_of w.cells) place ∙ length-words_of w.cells)
 
   front_length : length (filled 1024 (cells_part w)) ≡ 1024
   front_length = length-filled 1024 (cells_part w) (omega (arith, cells_length, length-all w))
@@ -188,5 +177,5 @@ module _ (place : ℕ → ℕ) (w : Trail) (few : length w.cells ≤ 64) (short 
         let n = words_length in
         let inside : q < length all_words = omega (arith, n.1) in
         let v : get_or all_words q 0 ≡ place (get_or (cell w.cells i).pieces k no_piece).first =
-        get_or-map place (words_of w.cells) q 0 0 (omega (arith, length-words w.cells)) ∙ ap place (word_of w.cells i k h l) in
+        get_or-map place (words_of w.cells) q 0 0 (omega (arith, length-words_of w.cells)) ∙ ap place (word_of w.cells i k h l) in
         word_stands b (1024 + 4 * words_before w.cells i + 4 * k) _ (λ j u. same _ (omega arith) ∙ word_byte q j _ inside u (omega arith) ∙ ap (λ z. get_or (word_bytes z) j 0) v)

@@ -11,7 +11,7 @@ use Rattle.rules.proofs.AreaSteps.{serves_some}
 use Rattle.map.specs.Law.{Lawful}
 use Rattle.map.specs.Places.{place_of, end_of}
 use Rattle.agree.specs.Correspondence.{Holds}
-use Rattle.agree.proofs.Frames.{no_piece}
+use Rattle.translate.proofs.Puts.{no_piece}
 
 -- a piece of an area through place
 abbrev pub placed : List ℕ → Piece → Piece

@@ -1,7 +1,7 @@
 -- Stores outside the program's own bytes, and pages without its data moved.
 use Rattle.std.proofs.Common.{◌≡◌, ℕ, ◌+◌, ◌*◌, ◌/◌, ◌%◌, ◌<◌, ◌≤◌, min, Bool, true, false, not, ◌&&◌, is_some, cond, eqb, List, [], ◌∷◌, ◌++◌, map, length, get_or, take, set, sym, refl, ap, ◌∙◌, subst, inl, inr, arith, length-set, length-take}
 use Rattle.std.proofs.lemmas.List.{get_or-take, ext_get_or, get_or-set_same, get_or-set_other}
-use Rattle.std.proofs.lemmas.Bool.{cases_eq, both_ways, or_parts, eqb-false, eq-eqb, ne_eqb, cond-true, cond-false}
+use Rattle.std.proofs.lemmas.Bool.{cases_eq, both_ways, not-true, or_parts, eqb-false, eq-eqb, ne_eqb, cond-true, cond-false}
 use Rattle.device.specs.Machine.{Machine}
 use Rattle.rules.specs.declared.pieces.Piece.{Piece}
 use Rattle.rules.specs.Areas.{run}
@@ -25,10 +25,6 @@ use Rattle.agree.proofs.Places.{Framed, framed}
 use Rattle.agree.proofs.Laying.{Every, every_append, apart_from, run_inside, run_up}
 use Rattle.agree.proofs.Steps.{laid_stays}
 
-denied : (b : Bool) → not b ≡ true → b ≡ false
-denied true e = sym e
-denied false e = refl
-
 module _ (fs : List ℕ) (free : ℕ → Bool) (law : Lawful fs free) (m : Machine) where
   pub stores_agree : StoresAgree m fs free
   unfolding StoresAgree
@@ -47,7 +43,7 @@ module _ (fs : List ℕ) (free : ℕ → Bool) (law : Lawful fs free) (m : Machi
   store_keeps es low n allowed start w host direct bytes c own size inside =
       let fits : low + length bytes ≤ end_of fs = omega (arith, size, inside) in
       stores_agree start w host direct low bytes c fits
-      (λ a from to o. none_told es low n (touched es low n) (denied (is_some (touched es low n)) allowed) (tells es low n) a from (omega (arith, size, to)) (subst (Own a) (sym own) o))
+      (λ a from to o. none_told es low n (touched es low n) (not-true (is_some (touched es low n)) allowed) (tells es low n) a from (omega (arith, size, to)) (subst (Own a) (sym own) o))
 
 -- no word leads into the page
 pieces_off : (page : ℕ) (ps : List Piece) → piece_in page ps ≡ false → Every (λ a. a / 4096 ≡ page → ⊥) (map first_of ps)

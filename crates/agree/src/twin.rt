@@ -12,7 +12,7 @@ use program::{Program, Progress};
 
 // Two runs of one program: the host's, on the program frame in format 1, and the direct one, on the guest's own bytes in
 // format 0.
-#[derive(Clone, Copy)]
+#[derive(Clone, Copy, Debug, PartialEq, Eq)]
 pub struct Twin {
     pub host: Program,
     pub direct: Program,
@@ -20,7 +20,7 @@ pub struct Twin {
 }
 
 // What up to k CCWs came to on each side.
-#[derive(Clone, Copy)]
+#[derive(Clone, Copy, Debug, Default, PartialEq, Eq)]
 pub struct Progresses {
     pub host: Progress,
     pub direct: Progress,

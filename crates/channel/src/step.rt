@@ -28,8 +28,8 @@ const INCORRECT_LENGTH: u8 = 0x40;
 
 const PROGRAM_CHECK: u8 = 0x20;
 
-// Below, storage, CCW and device stay three parameters: a struct with two `&mut` would ask two clauses more of each
-// function, that they still are its caller's.
+// Storage, CCW and device stay three parameters. Tried as a struct: it asks a lifetime for each of them and a clause of
+// each method that both `&mut` stay its caller's, and `Sound` as its ghost field is no proposition, so that each use opens it.
 
 // A reading CCW without SKIP.
 fn read_area<D: Device>(storage: &mut [u8], taken: &Taken, device: &mut D) -> usize

@@ -5,9 +5,10 @@ use Rattle.std.proofs.lemmas.List.{length_push}
 use Rattle.std.proofs.lemmas.Bool.{cases_Bool, ltb-true, ltb-false, both_ways}
 use Rattle.format.specs.Bytes.{Reader, reader}
 use Rattle.rules.specs.declared.pieces.Piece.{Piece}
-use Rattle.rules.specs.Areas.{serves, outside, Shaped}
+use Rattle.rules.specs.Areas.{outside, Shaped}
 use Rattle.rules.specs.Soundness.{Sound}
 use Rattle.rules.specs.TakingUp.{Cell, reach, backward}
+use Rattle.rules.proofs.AreaSteps.{serves_some}
 use Rattle.walk.specs.SoundTrails.{cell, pieces_in}
 use Rattle.walk.specs.Walks.{Trail, goes_on, carried}
 use Rattle.walk.proofs.SoundTrails.{Way, walks, sound_trail}
@@ -40,10 +41,6 @@ first_below true L v n some h =
       | inl low ↦ ltb-true v L low
       | inr high ↦ absurd (both_ways (outside true L v n) h (ap (λ x. not x || ltb (v + 1) n) high))
     ]
-
-serves_some : (back : Bool) (v : ℕ) → 0 < serves back v
-serves_some false v = omega arith
-serves_some true v = omega arith
 
 pieces_below : (back : Bool) (L : ℕ) (later : Bool) (left : ℕ) (ps : List Piece) → Shaped back L later left ps → Below L (map first_of ps)
 unfolding Shaped

@@ -1,17 +1,15 @@
 -- Bytes put into a buffer, one after the other.
-use Rattle.std.proofs.Common.{◌≡◌, ℕ, zero, suc, ◌+◌, ◌-◌, ◌*◌, ◌<◌, ◌≤◌, List, [], ◌∷◌, ◌++◌, map, length, get_or, take, drop, replicate, Some, None, Option, sym, refl, ap, ◌∙◌, subst, arith, length-append, length-take}
+use Rattle.std.proofs.Common.{◌≡◌, ℕ, zero, suc, ◌+◌, ◌-◌, ◌*◌, ◌<◌, ◌≤◌, List, [], ◌∷◌, ◌++◌, map, length, get_or, take, drop, replicate, Some, None, Option, sym, refl, ap, ◌∙◌, arith, length-append}
 use Rattle.std.proofs.Math.ListN.{length-map}
-use borrow.Rule.Slice.PartMut.{put_mid}
-use Rattle.std.proofs.lemmas.List.{append_assoc, append-nil, take-append-drop, take_at, drop_at, drop-drop, drop-replicate, take-replicate, length-replicate, length-take-le, map-append, get_or-map, get_or-take}
+use Rattle.std.proofs.lemmas.List.{append_assoc, take-append-drop, take_at, drop_at, drop-drop, drop-replicate, length-replicate, length-take-le, map-append}
 use Rattle.format.specs.Bytes.{word_bytes}
 use Rattle.format.specs.Layouts.{ccw_bytes}
 use Rattle.rules.specs.declared.pieces.Piece.{Piece}
 use Rattle.rules.specs.TakingUp.{Cell}
 use Rattle.walk.specs.Walks.{Trail}
-use Rattle.walk.proofs.Touching.{no_piece}
 use Rattle.translate.specs.Frames.{cell_ccw, behind_list, cells_bytes, first_of, words_of, words_bytes, filled, closing_bytes, cells_part}
 use Rattle.translate.specs.Fitting.{Below}
-use Rattle.translate.specs.Writing.{put_at}
+use Rattle.format.specs.Laying.{put_at}
 
 pub put_none : (address : ℕ) (buffer : List ℕ) → put_at address [] buffer ≡ buffer
 put_none address buffer = take-append-drop address buffer
@@ -33,6 +31,15 @@ put_more address next a b buffer h behind =
     ∙ append_assoc front a _
     ∙ ap (λ x. front ++ x) (sym (append_assoc a b _))
 
+-- at the end of such a loop nothing is left
+pub cells_end : (address list : ℕ) (cells : List Cell) (part whole : List ℕ) → cells ≡ [] → put_at address (cells_bytes cells list) part ≡ whole → part ≡ whole
+unfolding cells_bytes
+cells_end address list cells part whole e left = sym (put_none address part) ∙ ap (λ x. put_at address (cells_bytes x list) part) (sym e) ∙ left
+
+pub words_end : (address : ℕ) (words : List ℕ) (part whole : List ℕ) → words ≡ [] → put_at address (words_bytes words) part ≡ whole → part ≡ whole
+unfolding words_bytes
+words_end address words part whole e left = sym (put_none address part) ∙ ap (λ x. put_at address (words_bytes x) part) (sym e) ∙ left
+
 -- into zeros
 pub put_zeros : (n : ℕ) (bytes : List ℕ) → put_at 0 bytes (replicate n 0) ≡ filled n bytes
 put_zeros n bytes = ap (λ x. bytes ++ x) (drop-replicate (length bytes) n 0)
@@ -52,39 +59,46 @@ unfolding words_bytes
 words_append [] b = refl
 words_append (w ∷ a) b = ap (λ x. word_bytes w ++ x) (words_append a b) ∙ sym (append_assoc (word_bytes w) (words_bytes a) (words_bytes b))
 
-pub no_cells : (list : ℕ) → cells_bytes [] list ≡ []
+abbrev pub no_piece : Piece
+no_piece = record { first = 0; size = 0 }
+
+-- The turn of a loop that writes: the entry at hand is written, the rest is still to come.
+
+pub cell_turn : (i list n : ℕ) (t : Cell) (cells rest : List Cell) (part next whole : List ℕ) → 8 * i ≤ length part → next ≡ put_at (8 * i) (ccw_bytes (cell_ccw t list)) part → n ≡ length t.pieces → cells ≡ t ∷ rest
+    → put_at (8 * i) (cells_bytes cells list) part ≡ whole → put_at (8 * (i + 1)) (cells_bytes rest (list + 4 * n)) next ≡ whole
 unfolding cells_bytes
-no_cells list = refl
+cell_turn i list n t cells rest part next whole h written many e left =
+    ap (λ x. put_at (8 * (i + 1)) (cells_bytes rest (list + 4 * x)) next) many
+    ∙ ap (put_at (8 * (i + 1)) (cells_bytes rest (behind_list t list))) written
+    ∙ put_more (8 * i) (8 * (i + 1)) (ccw_bytes (cell_ccw t list)) (cells_bytes rest (behind_list t list)) part h (omega arith)
+    ∙ ap (λ x. put_at (8 * i) (cells_bytes x list) part) (sym e)
+    ∙ left
 
-pub no_words : words_bytes [] ≡ []
-unfolding words_bytes
-no_words = refl
-
--- one cell more
-pub put_cell : (i list : ℕ) (t : Cell) (rest : List Cell) (part : List ℕ) → 8 * i ≤ length part
-    → put_at (8 * (i + 1)) (cells_bytes rest (behind_list t list)) (put_at (8 * i) (ccw_bytes (cell_ccw t list)) part) ≡ put_at (8 * i) (cells_bytes (t ∷ rest) list) part
-unfolding cells_bytes
-put_cell i list t rest part h = put_more (8 * i) (8 * (i + 1)) (ccw_bytes (cell_ccw t list)) (cells_bytes rest (behind_list t list)) part h (omega arith)
-
--- one word more
-pub put_word : (address i w : ℕ) (rest part : List ℕ) → address + 4 * i ≤ length part
-    → put_at (address + 4 * (i + 1)) (words_bytes rest) (put_at (address + 4 * i) (word_bytes w) part) ≡ put_at (address + 4 * i) (words_bytes (w ∷ rest)) part
-unfolding words_bytes
-put_word address i w rest part h = put_more (address + 4 * i) (address + 4 * (i + 1)) (word_bytes w) (words_bytes rest) part h (omega arith)
-
--- one list more
 module _ (place : ℕ → ℕ) where
   abbrev pub host_words : List ℕ → List ℕ
   host_words words = words_bytes (map place words)
 
-  pub put_list : (words : ℕ) (t : Cell) (rest : List Cell) (part : List ℕ) → 4 * words ≤ length part
-      → put_at (4 * (words + length t.pieces)) (host_words (words_of rest)) (put_at (4 * words) (host_words (map first_of t.pieces)) part) ≡ put_at (4 * words) (host_words (words_of (t ∷ rest))) part
+  pub word_turn : (address i w : ℕ) (words rest part next whole : List ℕ) → address + 4 * i ≤ length part → next ≡ put_at (address + 4 * i) (word_bytes (place w)) part → words ≡ w ∷ rest
+      → put_at (address + 4 * i) (host_words words) part ≡ whole → put_at (address + 4 * (i + 1)) (host_words rest) next ≡ whole
+  unfolding words_bytes
+  word_turn address i w words rest part next whole h written e left =
+      ap (put_at (address + 4 * (i + 1)) (host_words rest)) written
+      ∙ put_more (address + 4 * i) (address + 4 * (i + 1)) (word_bytes (place w)) (host_words rest) part h (omega arith)
+      ∙ ap (λ x. put_at (address + 4 * i) (host_words x) part) (sym e)
+      ∙ left
+
+  pub list_turn : (words n : ℕ) (t : Cell) (cells rest : List Cell) (part next whole : List ℕ) → 4 * words ≤ length part → next ≡ put_at (4 * words) (host_words (map first_of t.pieces)) part → n ≡ length t.pieces → cells ≡ t ∷ rest
+      → put_at (4 * words) (host_words (words_of cells)) part ≡ whole → put_at (4 * (words + n)) (host_words (words_of rest)) next ≡ whole
   unfolding words_of
-  put_list words t rest part h =
+  list_turn words n t cells rest part next whole h written many e left =
       let here = map first_of t.pieces in
       let size : length (host_words here) ≡ 4 * length t.pieces = length-words (map place here) ∙ ap (λ n. 4 * n) (length-map here place ∙ length-map t.pieces first_of) in
-      put_more (4 * words) (4 * (words + length t.pieces)) (host_words here) (host_words (words_of rest)) part h (omega arith)
+      ap (λ x. put_at (4 * (words + x)) (host_words (words_of rest)) next) many
+      ∙ ap (put_at (4 * (words + length t.pieces)) (host_words (words_of rest))) written
+      ∙ put_more (4 * words) (4 * (words + length t.pieces)) (host_words here) (host_words (words_of rest)) part h (omega arith)
       ∙ ap (λ x. put_at (4 * words) x part) (sym (words_append (map place here) (map place (words_of rest))) ∙ ap words_bytes (sym (map-append place here (words_of rest))))
+      ∙ ap (λ x. put_at (4 * words) (host_words (words_of x)) part) (sym e)
+      ∙ left
 
 pub words_more : (t : Cell) (rest : List Cell) → length (words_of (t ∷ rest)) ≡ length t.pieces + length (words_of rest)
 unfolding words_of
@@ -111,14 +125,6 @@ below_at limit [] i h b = absurd (omega arith)
 below_at limit (x ∷ xs) zero h b = b.0
 below_at limit (x ∷ xs) (suc i) h b = below_at limit xs i (omega arith) b.1
 
-pub piece_below : (limit : ℕ) (items : List Piece) (len i : ℕ) → i < len → i < length items → Below limit (map first_of (take len items)) → (get_or items i no_piece).first < limit
-piece_below limit items len i h l below =
-    let there : i < length (take len items) = simp length-take (omega arith) in
-    let mapped : i < length (map first_of (take len items)) = simp length-map there in
-    let is : get_or (map first_of (take len items)) i 0 ≡ (get_or items i no_piece).first = get_or-map first_of (take len items) i no_piece 0 there ∙ ap first_of (get_or-take len items i no_piece h) in
-    let P : ℕ → Type 0 = λ n. n < limit in
-    subst P is (below_at limit (map first_of (take len items)) i mapped below)
-
 pub length-filled : (n : ℕ) (bytes : List ℕ) → length bytes ≤ n → length (filled n bytes) ≡ n
 length-filled n bytes h = length-append bytes (replicate (n - length bytes) 0) ∙ ap (λ k. length bytes + k) (length-replicate (n - length bytes) 0) ∙ omega arith
 
@@ -134,19 +140,3 @@ length-cells_part w few =
     let closing = closing_short w.closes in
     let fits : length (cells_part w) ≤ 1024 = omega arith in
     length-filled 1024 (cells_part w) fits
-
--- the second part of a frame whose first part is written, and that part written too
-pub second_part : (front : List ℕ) → length front ≡ 1024 → take 3072 (drop 1024 (front ++ drop 1024 (replicate 4096 0))) ≡ replicate 3072 0
-second_part front size =
-    ap (take 3072) (drop_at front (drop 1024 (replicate 4096 0)) 1024 size)
-    ∙ ap (take 3072) (drop-replicate 1024 4096 0)
-    ∙ take-replicate 3072 3072 0 (omega arith)
-
-pub two_parts : (front back : List ℕ) → length front ≡ 1024 → put_mid 1024 3072 (front ++ drop 1024 (replicate 4096 0)) back ≡ front ++ back
-two_parts front back size =
-    let rest : List ℕ = drop 1024 (replicate 4096 0) in
-    let none : drop 3072 rest ≡ [] = ap (drop 3072) (drop-replicate 1024 4096 0) ∙ drop-replicate 3072 3072 0 in
-    ap (λ x. x ++ (back ++ drop 3072 (drop 1024 (front ++ rest)))) (take_at front rest 1024 size)
-    ∙ ap (λ x. front ++ (back ++ drop 3072 x)) (drop_at front rest 1024 size)
-    ∙ ap (λ x. front ++ (back ++ x)) none
-    ∙ ap (λ x. front ++ x) (append-nil back)

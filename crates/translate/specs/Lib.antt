@@ -2,5 +2,4 @@ pub mod Frames
 pub mod Translations
 pub mod Kept
 pub mod Fitting
-pub mod Writing
 pub mod Theorems

@@ -1,18 +1,17 @@
-ghost use Rattle.std.specs.Prelude.{◌≡◌, ℕ, ◌<◌, Bool, false, ◌||◌, length, replicate, slice_index_or};
+ghost use Rattle.std.specs.Prelude.{◌≡◌, ℕ, ◌<◌, Bool, true, false, ◌||◌, length, replicate, slice_index_or, slice_set};
 ghost use Rattle.rules.specs.Areas.{listed};
 ghost use Rattle.walk.specs.Walks.{cells_of};
 ghost use Rattle.translate.specs.Translations.{piece_in, data_pages};
 
+use map::interface::MOST_PAGES;
 use rules::pieces::Pieces;
 use walk::cells::Cells;
 
-// The most pages that a guest has, and the bytes of each.
-const MOST_PAGES: usize = 128;
-
+// The bytes of a page.
 const PAGE_SIZE: usize = 4096;
 
 // For each page of a guest whether a program has data in it.
-#[derive(Clone, Copy)]
+#[derive(Clone, Copy, Debug, PartialEq, Eq)]
 pub struct DataPages {
     flags: [bool; MOST_PAGES],
 }
@@ -30,21 +29,24 @@ impl DataPages {
     pub fn has(&self, page: usize) -> bool
         ensures { result ≡ slice_index_or self.now.flags page false }
     {
-        if page >= MOST_PAGES {
-            return false;
+        self.flags.get(page).copied().unwrap_or(false)
+    }
+
+    // A page past the last is left out. By an index: the contract of `get_mut` does not say what a write through it leaves.
+    fn mark_page(&mut self, page: usize)
+        ensures { self.new.flags ≡ slice_set self.old.flags page true }
+    {
+        if page < MOST_PAGES {
+            self.flags[page] = true;
         }
-        self.flags[page]
     }
 
     fn mark(&mut self, pieces: &Pieces)
         ensures size { length self.new.flags ≡ 128 }
         ensures pages { (page : ℕ) → page < 128 → slice_index_or self.new.flags page false ≡ (slice_index_or self.old.flags page false || piece_in page (listed pieces.now)) }
     {
-        for i in 0..pieces.len {
-            let page = pieces.items[i].first / PAGE_SIZE;
-            if page < MOST_PAGES {
-                self.flags[page] = true;
-            }
+        for piece in pieces.iter() {
+            self.mark_page(piece.first / PAGE_SIZE);
         }
     }
 }
@@ -54,8 +56,8 @@ pub(crate) fn data_pages_of(cells: &Cells) -> DataPages
     ensures { result.flags ≡ data_pages (cells_of cells.now) }
 {
     let mut pages = DataPages::none();
-    for i in 0..cells.len {
-        pages.mark(&cells.items[i].pieces);
+    for taken in cells.iter() {
+        pages.mark(&taken.pieces);
     }
     pages
 }

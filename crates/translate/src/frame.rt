@@ -1,22 +1,22 @@
 ghost use Rattle.std.specs.Prelude.{◌≡◌, ℕ, ◌+◌, ◌*◌, ◌<◌, ◌≤◌, List, map as each, length, replicate};
+ghost use Rattle.format.specs.Laying.{put_at};
 ghost use Rattle.rules.specs.Areas.{listed};
 ghost use Rattle.rules.specs.TakingUp.{cell_of};
 ghost use Rattle.walk.specs.Walks.{cells_of, trail_of};
 ghost use Rattle.map.specs.Places.{end_of, place_of};
 ghost use Rattle.translate.specs.Frames.{cell_ccw, cells_bytes, transfer_to, closing_bytes, cells_part, filled, first_of, words_of, words_bytes, frame_of};
 ghost use Rattle.translate.specs.Fitting.{Below, ClosesBelow, FitsFrame};
-ghost use Rattle.translate.specs.Writing.{put_at};
 
 use format::big_endian::word_to_bytes;
 use format::ccw::Ccw;
 use format::flags::Flags;
+use format::laying::put_at;
 use map::address::GuestAddress;
 use map::interface::Map;
 use map::placing::place;
 use rules::pieces::Pieces;
 use rules::place::Taken;
 use walk::cells::{Cells, Walked};
-use walk::walking::cell_count;
 
 // The bytes of a program frame, and where the lists begin in it.
 pub const FRAME_SIZE: usize = 4096;
@@ -27,24 +27,6 @@ const LISTS_START: usize = 1024;
 const CELL_SIZE: usize = 8;
 
 const WORD_SIZE: usize = 4;
-
-const NO_FLAGS: Flags = Flags {
-    cd: false,
-    cc: false,
-    sli: false,
-    skip: false,
-    pci: false,
-    ida: false,
-    suspend: false,
-    mida: false,
-};
-
-fn put_at(buffer: &mut [u8], address: usize, bytes: &[u8])
-    requires { address + length bytes.now ≤ length buffer.old }
-    ensures { buffer.new ≡ put_at address bytes.now buffer.old }
-{
-    buffer[address..address + bytes.len()].copy_from_slice(bytes);
-}
 
 // The cell of a guest's CCW, with its list at an address of the frame.
 fn cell_ccw(taken: &Taken, list: u32) -> Ccw
@@ -59,7 +41,7 @@ fn cell_ccw(taken: &Taken, list: u32) -> Ccw
             sli: found.flags.sli,
             skip: found.flags.skip,
             ida: true,
-            ..NO_FLAGS
+            ..Flags::default()
         },
         count: found.count,
         address: list,
@@ -73,7 +55,7 @@ fn transfer_to(cell: usize) -> Ccw
 {
     Ccw {
         code: 8,
-        flags: NO_FLAGS,
+        flags: Flags::default(),
         count: 0,
         address: (CELL_SIZE * cell) as u32,
     }
@@ -84,10 +66,10 @@ fn write_cells(part: &mut [u8], cells: &Cells)
     ensures { part.new ≡ put_at 0 (cells_bytes (cells_of cells.now) 1024) part.old }
 {
     let mut list = LISTS_START;
-    for i in 0..cells.len {
-        let taken = &cells.items[i];
-        put_at(part, CELL_SIZE * i, &cell_ccw(taken, list as u32).encode());
-        list += WORD_SIZE * taken.pieces.items[..taken.pieces.len].len();
+    for (index, taken) in cells.iter().enumerate() {
+        let cell = cell_ccw(taken, list as u32);
+        put_at(part, CELL_SIZE * index, &cell.encode());
+        list += WORD_SIZE * taken.pieces.len();
     }
 }
 
@@ -106,7 +88,7 @@ fn write_program(part: &mut [u8], walked: &Walked)
     ensures { part.new ≡ filled 1024 (cells_part (trail_of walked.now)) }
 {
     write_cells(part, &walked.cells);
-    write_closing(part, CELL_SIZE * cell_count(&walked.cells), walked.closes);
+    write_closing(part, CELL_SIZE * walked.cells.len(), walked.closes);
 }
 
 // The word of a guest address that the guest has: its place in the host.
@@ -121,13 +103,9 @@ fn write_list<M: Map>(map: &M, pieces: &Pieces, part: &mut [u8], address: usize)
     requires { (address + 4 * length (listed pieces.now) ≤ length part.old) × (Below (end_of (M.frames map.now)) (each first_of (listed pieces.now))) }
     ensures { part.new ≡ put_at address (words_bytes (each (place_of (M.frames map.now)) (each first_of (listed pieces.now)))) part.old }
 {
-    for i in 0..pieces.len {
-        let first = GuestAddress(pieces.items[i].first as u32);
-        put_at(
-            part,
-            address + WORD_SIZE * i,
-            &word_to_bytes(host_word(map, first)),
-        );
+    for (index, piece) in pieces.iter().enumerate() {
+        let word = host_word(map, GuestAddress(piece.first as u32));
+        put_at(part, address + WORD_SIZE * index, &word_to_bytes(word));
     }
 }
 
@@ -138,18 +116,11 @@ fn write_lists<M: Map>(map: &M, cells: &Cells, part: &mut [u8]) -> usize
     ensures lists { part.new ≡ put_at 0 (words_bytes (each (place_of (M.frames map.now)) (words_of (cells_of cells.now)))) part.old }
 {
     let mut words = 0;
-    for i in 0..cells.len {
-        let pieces = &cells.items[i].pieces;
-        write_list(map, pieces, part, WORD_SIZE * words);
-        words += pieces.items[..pieces.len].len();
+    for taken in cells.iter() {
+        write_list(map, &taken.pieces, part, WORD_SIZE * words);
+        words += taken.pieces.len();
     }
     words
-}
-
-fn clear(frame: &mut [u8; FRAME_SIZE])
-    ensures { frame.new ≡ replicate 4096 0 }
-{
-    *frame = [0; FRAME_SIZE];
 }
 
 // Writes the whole frame of an accepted program, and answers how many words it has.
@@ -158,7 +129,8 @@ pub(crate) fn write_frame<M: Map>(map: &M, walked: &Walked, frame: &mut [u8; FRA
     ensures count { result ≡ length (words_of (cells_of walked.now.cells)) }
     ensures frame { frame.new ≡ frame_of (place_of (M.frames map.now)) (trail_of walked.now) }
 {
-    clear(frame);
-    write_program(&mut frame[..LISTS_START], walked);
-    write_lists(map, &walked.cells, &mut frame[LISTS_START..])
+    *frame = [0; FRAME_SIZE];
+    let (program, lists) = frame.split_at_mut(LISTS_START);
+    write_program(program, walked);
+    write_lists(map, &walked.cells, lists)
 }

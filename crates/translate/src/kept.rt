@@ -5,7 +5,7 @@ use walk::own_bytes::OwnBytes;
 pub mod making;
 
 // What is kept of a translated program besides its frame.
-#[derive(Clone, Copy)]
+#[derive(Debug, Drop)]
 pub struct Kept {
     pub back: BackTable,
     pub own: OwnBytes,

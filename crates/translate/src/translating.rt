@@ -11,7 +11,7 @@ use map::address::GuestAddress;
 use map::interface::Map;
 use map::view::GuestView;
 use walk::own_bytes::asking::{first_overwriting_ccw, own_bytes_of};
-use walk::walking::{cell_count, walk_program};
+use walk::walking::walk_program;
 
 fn translate_program<'a, M: Map>(
     map: &'a M,
@@ -23,17 +23,14 @@ fn translate_program<'a, M: Map>(
     ensures { record { answer = result; frame = frame.new; kept = keeping_in kept.new }
         ≡ translated (M.frames map.now) host.now start.0 frame.old (keeping_in kept.old) }
 {
-    let walked = match walk_program(&GuestView { map, host }, start.0) {
-        Ok(walked) => walked,
-        Err(broken) => return Err(broken.refusal),
-    };
+    let walked = walk_program(&GuestView { map, host }, start.0)?;
     let own = own_bytes_of(&walked.cells);
     if let Some(ccw) = first_overwriting_ccw(&own, &walked.cells) {
         return Err(Refusal::ReadsOverProgram(ccw));
     }
     let words = write_frame(map, &walked, frame);
     *kept = Kept::of(&walked.cells, own);
-    Ok((cell_count(&walked.cells), words))
+    Ok((walked.cells.len(), words))
 }
 
 // Translates the guest's program that starts at an address: fills the frame and what is kept, and answers the number of

@@ -15,9 +15,11 @@ use Rattle.walk.specs.declared.cells.Visit.TheVariants.{Met, Fresh}
 use Rattle.walk.specs.Walks.{Trail, same_place, met, goes_on, carried, behind, Inside, Seen, again, fresh, seen_of, or_met, read_new, look_at, one_place, with_cell, onward, walk}
 
 -- the turn of a loop over a table: its entry is the next of the list, and at the end none is left
+pub entry_or : {X Y : Type 0} (F : List X → Y) (xs ys : List X) (i : ℕ) (d : X) → ys ≡ xs → i < length ys → F (drop i xs) ≡ F (get_or ys i d ∷ drop (i + 1) xs)
+entry_or F xs ys i d e h = ap (λ l. F (drop i l)) (sym e) ∙ at_drop_more F ys i d h ∙ ap (λ l. F (get_or ys i d ∷ drop (i + 1) l)) e
+
 pub entry_at : {X Y : Type 0} (F : List X → Y) (xs ys : List X) (i : ℕ) (x : X) → ys ≡ xs → i < length ys → x ≡ get_or ys i x → F (drop i xs) ≡ F (x ∷ drop (i + 1) xs)
-entry_at F xs ys i x e h is =
-    ap (λ l. F (drop i l)) (sym e) ∙ at_drop_more F ys i x h ∙ ap (λ y. F (y ∷ drop (i + 1) ys)) (sym is) ∙ ap (λ l. F (x ∷ drop (i + 1) l)) e
+entry_at F xs ys i x e h is = entry_or F xs ys i x e h ∙ ap (λ y. F (y ∷ drop (i + 1) xs)) (sym is)
 
 pub entry_none : {X Y : Type 0} (F : List X → Y) (xs ys : List X) (i : ℕ) → ys ≡ xs → length ys ≤ i → F (drop i xs) ≡ F []
 entry_none F xs ys i e h = ap (λ l. F (drop i l)) (sym e) ∙ at_drop_all F ys i h

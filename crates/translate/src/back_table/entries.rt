@@ -23,10 +23,9 @@ impl BackTable {
     pub fn ccw_of(&self, cell: usize) -> Option<GuestAddress>
         ensures { result ≡ entry_at (addresses_in self.now) cell }
     {
-        if cell >= self.len {
-            return None;
-        }
-        Some(GuestAddress(self.addresses[cell]))
+        self.addresses[..self.len]
+            .get(cell)
+            .map(|address| GuestAddress(*address))
     }
 
     // The guest's CCW address for the host's in a status word: 8 above the CCW of the cell that the host's follows, 0 if
@@ -37,11 +36,10 @@ impl BackTable {
         if host == 0 || host % 8 != 0 {
             return 0;
         }
-        let cell = (host - 8) / 8;
-        if cell as usize >= self.len {
-            return 0;
+        match self.ccw_of((host as usize - 8) / 8) {
+            Some(ccw) => ccw.0 + 8,
+            None => 0,
         }
-        self.addresses[cell as usize] + 8
     }
 
     fn push(&mut self, address: u32)
@@ -60,8 +58,8 @@ pub(crate) fn back_table_of(cells: &Cells) -> BackTable
     ensures { addresses_in result ≡ ccw_addresses (cells_of cells.now) }
 {
     let mut back = BackTable::new();
-    for i in 0..cells.len {
-        back.push(cells.items[i].ccw.address);
+    for taken in cells.iter() {
+        back.push(taken.ccw.address);
     }
     back
 }

@@ -11,7 +11,6 @@ use super::super::data_pages::{DataPages, data_pages_of};
 use super::Kept;
 use walk::cells::Cells;
 use walk::own_bytes::OwnBytes;
-use walk::own_bytes::asking::no_bytes;
 
 impl Kept {
     // What is kept of no program.
@@ -20,7 +19,7 @@ impl Kept {
     {
         Kept {
             back: BackTable::new(),
-            own: no_bytes(),
+            own: OwnBytes::none(),
             pages: DataPages::none(),
         }
     }

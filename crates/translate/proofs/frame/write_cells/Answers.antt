@@ -1,44 +1,25 @@
-use Rattle.std.proofs.Common.{◌+◌, ◌*◌, ◌<◌, ◌≤◌, length, get_or, drop, sym, ap, ◌∙◌, arith, length-take, rules}
-use Rattle.std.proofs.Math.ListN.{length-map}
-use Rattle.std.proofs.lemmas.List.{drop_all}
+use Rattle.std.proofs.Common.{◌+◌, ◌*◌, ◌≤◌, List, map, length, ap, ◌∙◌, arith}
+use Rattle.format.specs.Laying.{put_at}
 use Rattle.format.specs.Layouts.{ccw_bytes}
-use Rattle.rules.specs.Areas.{listed}
+use Rattle.rules.specs.declared.place.Taken.{Taken}
 use Rattle.rules.specs.TakingUp.{cell_of}
-use Rattle.walk.specs.Walks.{cells_of}
-use Rattle.walk.proofs.Trails.{next_cell}
-use Rattle.translate.specs.Frames.{cells_bytes, behind_list}
-use Rattle.translate.specs.Writing.{put_at}
-use Rattle.translate.proofs.Puts.{put_cell, put_none, no_cells}
+use Rattle.walk.proofs.Trails.{entry_at, entry_none}
+use Rattle.translate.proofs.Puts.{cell_turn, cells_end}
 use Rattle.translate.proofs.frame.write_cells.Goals as goal
 
-pub loop-i-preserved : goal.loop-i-preserved
-loop-i-preserved c =
-    let table = c.args.cells.now in
-    let i = c.loop-i.i in
-    let list = c.loop-i.list in
-    let part = c.loop-i.part in
-    let d = c.index-cells-i.result in
-    let h : i < length table.items = search rules in
-    let e = next_cell cell_of table.items table.len i d c.loop-i-test.true h in
-    let taken = get_or table.items i d in
-    let t = cell_of taken in
-    let rest = drop (i + 1) (cells_of table) in
-    let inv = c.loop-i.invariant in
-    let short = taken.pieces.short in
-    let room : 8 * i ≤ length part = omega (arith, c.requires, c.loop-i.auto.part, table.short) in
-    let few : length (listed taken.pieces) ≤ 33 = simp length-take (omega arith) in
-    let cell = c.put_at.ensures ∙ ap (λ x. put_at (8 * i) x part) (c.encode.ensures.is ∙ ap ccw_bytes c.cell_ccw.ensures) in (
-      ap (put_at (8 * (i + 1)) (cells_bytes rest (behind_list t list))) cell
-          ∙ put_cell i list t rest part room
-          ∙ ap (λ x. put_at (8 * i) (cells_bytes x list) part) (sym e)
-          ∙ inv.0,
-      omega (arith, inv.1, few),
+pub loop-index-preserved : goal.loop-index-preserved
+loop-index-preserved c =
+    let i = c.loop-index.index in
+    let part = c.loop-index.part in
+    let inv = c.loop-index.invariant in
+    let bytes = c.encode.ensures.is ∙ ap ccw_bytes c.cell_ccw-cell.ensures in
+    let room : 8 * i + length c.encode.result ≤ length part = omega (arith, ap length bytes, c.requires, c.loop-index.auto.part, c.deref-taken-items.ensures.1) in
+    let next = entry_at (λ (l : List Taken). map cell_of l) c.args.cells.now.items c.deref-taken-items.result.now i c.taken-item.result c.deref-taken-items.ensures.0 c.loop-index-test.true c.taken-item.is in (
+      cell_turn i c.loop-index.list c.len.result (cell_of c.taken-item.result) _ _ part c.put_at.new.storage _ (omega arith) (c.put_at.ensures.whole room ∙ ap (λ x. put_at (8 * i) x part) bytes) c.len.ensures.value next inv.0,
+      omega (arith, inv.1, c.len.ensures.fits),
     )
 
 pub returns : goal.returns
 returns c =
-    let cells = cells_of c.args.cells.now in
-    let end : length cells ≤ c.loop-i.i = simp (length-map, length-take) (omega arith) in
-    sym (put_none (8 * c.loop-i.i) c.loop-i.part)
-    ∙ ap (λ x. put_at (8 * c.loop-i.i) x c.loop-i.part) (sym (ap (λ x. cells_bytes x c.loop-i.list) (drop_all c.loop-i.i cells end) ∙ no_cells c.loop-i.list))
-    ∙ c.loop-i.invariant.0
+    let none = entry_none (λ (l : List Taken). map cell_of l) c.args.cells.now.items c.deref-taken-items.result.now c.loop-index.index c.deref-taken-items.ensures.0 c.loop-index-test.false in
+    cells_end (8 * c.loop-index.index) c.loop-index.list _ c.loop-index.part _ none c.loop-index.invariant.0

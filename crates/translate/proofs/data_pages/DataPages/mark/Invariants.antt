@@ -3,7 +3,8 @@ use Rattle.rules.specs.Areas.{listed}
 use Rattle.translate.specs.Translations.{piece_in}
 use Rattle.translate.proofs.data_pages.DataPages.mark.Given as goal
 
-abbrev pub invariant-loop-i : goal.invariant-loop-i
-invariant-loop-i l =
-    ((page : ℕ) → page < 128 → get_or l.self.flags page false || piece_in page (drop l.i (listed l.pieces)) ≡ get_or l.initial.self.flags page false || piece_in page (listed l.pieces))
+-- what is marked, with the pieces still to come, is all
+abbrev pub invariant-loop-piece : goal.invariant-loop-piece
+invariant-loop-piece l =
+    ((page : ℕ) → page < 128 → get_or l.self.flags page false || piece_in page (drop l.piece-index (listed l.pieces)) ≡ get_or l.initial.self.flags page false || piece_in page (listed l.pieces))
     × (length l.self.flags ≡ 128)

@@ -2,8 +2,8 @@ ghost use Rattle.std.specs.Prelude.{◌≡◌, ℕ, ◌^◌, ◌<◌, ◌≤◌,
 
 pub mod entries;
 
-// For each cell of a program frame the guest address of its CCW. A plain array with its length, in fixed memory: so the
-// table is `Copy`.
+// For each cell of a program frame the guest address of its CCW. A rule of the project: a plain array of 64 entries with its
+// length, in fixed memory, so that the table is `Copy`.
 #[derive(Clone, Copy, Debug)]
 pub struct BackTable {
     addresses: [u32; 64],

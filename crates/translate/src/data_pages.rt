@@ -3,12 +3,10 @@ ghost use Rattle.rules.specs.Areas.{listed};
 ghost use Rattle.walk.specs.Walks.{cells_of};
 ghost use Rattle.translate.specs.Translations.{piece_in, data_pages};
 
+use map::address::PAGE_SIZE;
 use map::interface::MOST_PAGES;
 use rules::pieces::Pieces;
 use walk::cells::Cells;
-
-// The bytes of a page.
-const PAGE_SIZE: usize = 4096;
 
 // For each page of a guest whether a program has data in it.
 #[derive(Clone, Copy, Debug, PartialEq, Eq)]
@@ -46,7 +44,7 @@ impl DataPages {
         ensures pages { (page : ℕ) → page < 128 → slice_index_or self.new.flags page false ≡ (slice_index_or self.old.flags page false || piece_in page (listed pieces.now)) }
     {
         for piece in pieces.iter() {
-            self.mark_page(piece.first / PAGE_SIZE);
+            self.mark_page(piece.first / PAGE_SIZE as usize);
         }
     }
 }

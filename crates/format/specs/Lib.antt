@@ -5,3 +5,4 @@ pub mod Layouts
 pub mod Refusals
 pub mod StatusWords
 pub mod Laying
+pub mod Texts

@@ -1,6 +1,7 @@
-ghost use Rattle.std.specs.Prelude.{◌≡◌};
+ghost use Rattle.std.specs.Prelude.{◌≡◌, Some};
 ghost use Rattle.format.specs.Bytes.{reader};
 ghost use Rattle.format.specs.Layouts.{ccw_at, ccw_bytes};
+ghost use Rattle.format.specs.Texts.{digit_of};
 
 use super::big_endian::three_bytes;
 use super::flags::Flags;
@@ -14,6 +15,8 @@ pub enum Format {
 }
 
 impl fmt::Display for Format {
+    ghost output = { λ format. Some (digit_of format) };
+
     fn fmt<W: fmt::Write>(&self, f: &mut fmt::Formatter<W>) -> fmt::Result {
         f.write_str(match self {
             Format::Zero => "0",

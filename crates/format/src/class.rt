@@ -1,5 +1,6 @@
-ghost use Rattle.std.specs.Prelude.{◌≡◌, slice_index_or};
+ghost use Rattle.std.specs.Prelude.{◌≡◌, Some, slice_index_or};
 ghost use Rattle.format.specs.Classes.{class_of, class_in, class_table, reads_storage, backwards};
+ghost use Rattle.format.specs.Texts.{name_of};
 
 use super::ccw::Format;
 use std::fmt;
@@ -73,6 +74,8 @@ impl Class {
 }
 
 impl fmt::Display for Class {
+    ghost output = { λ class. Some (name_of class) };
+
     fn fmt<W: fmt::Write>(&self, f: &mut fmt::Formatter<W>) -> fmt::Result {
         f.write_str(match self {
             Class::Invalid => "invalid",

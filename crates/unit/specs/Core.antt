@@ -1,6 +1,7 @@
 -- What a model means: a device without its sense byte. A reader must believe: a model is a state, what its
 -- open command has still to move, and four fixed functions of the state, of which the start and the end of
--- a command may each be a fault, with a status and a sense byte to set.
+-- a command may each be a fault, with a status and a sense byte to set; a code that no model knows is the fault of
+-- status 02 with sense 80.
 use Rattle.std.specs.Prelude.{ℕ, Bool, true, false, List, Result}
 use Rattle.device.specs.declared.interface.Begun.{Begun}
 use Rattle.device.specs.Machine.{Pending, shut, giving, taking}

@@ -4,7 +4,7 @@
 ghost use Rattle.std.specs.Prelude.{◌≡◌, ◌+◌, ◌^◌, ◌<◌, ◌≤◌, take, drop, Decides, MatchOption, MatchResult, OnOk};
 ghost use Rattle.map.specs.Law.{Lawful, PutDone, PutRefused};
 ghost use Rattle.window.specs.Windows.{Inside, shown, PutThrough};
-ghost use Rattle.window.specs.Showing.{shown_lawful};
+ghost use Rattle.window.specs.Showing.{window_lawful};
 
 use format::refusal::Refusal;
 use map::interface::Map;
@@ -103,7 +103,7 @@ impl<M: Map> Map for Window<M> {
 
     ghost free = { λ w. M.Map.free w.below };
 
-    ghost lawful = { λ w. shown_lawful w.span _ _ w.inside (M.Map.lawful w.below) };
+    ghost lawful = { λ w. window_lawful w.span _ _ w.inside (M.Map.lawful w.below) };
 
     fn page_count(&self) -> usize {
         self.span.count

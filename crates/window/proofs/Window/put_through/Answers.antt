@@ -10,5 +10,5 @@ returns-in-Some-clause-answer g c =
     let new = c.put.new.self in
     let has = c.in-Some.ensures in
     let same = same_made (λ b. Inside w.span (m.frames b)) (λ b. hlevel props) (λ b i. record { below = b; span = w.span; inside = i }) in
-    shown_answer w.span (m.frames w.below) (m.free w.below) c.args.page c.args.frame w.inside has.0
-    c.put.result (m.frames new) (m.free new) new w.below _ w (λ e. same new w.below e _ w.inside) _ has.1 c.put.ensures.answer
+    shown_answer w.span (m.frames w.below) (m.free w.below) c.args.page c.args.frame (m.frames new) (m.free new)
+    c.put.result new w.below _ w (λ e. same new w.below e _ w.inside) has.0 _ has.1 c.put.ensures.answer

@@ -1,6 +1,6 @@
 -- What the laws give: moves add up, in full or not, and parts are one move.
-use Rattle.std.proofs.Common.{◌≡◌, ℕ, zero, suc, ◌+◌, ◌-◌, ◌≤◌, List, [], ◌∷◌, ◌++◌, length, take, drop, sym, refl, ap, ◌∙◌, inl, inr, arith}
-use Rattle.std.proofs.Math.Seq.{take-nil}
+use Rattle.std.proofs.Common.{◌≡◌, ℕ, ◌+◌, ◌-◌, ◌≤◌, List, [], ◌∷◌, ◌++◌, length, take, drop, sym, refl, ap, ◌∙◌, inl, inr, arith}
+use Rattle.std.proofs.Math.Seq.{take-add}
 use Rattle.std.proofs.lemmas.List.{take-append-le, drop_all}
 use Rattle.std.proofs.lemmas.Bool.{cases_lt}
 use Rattle.device.specs.Machine.{Machine, Pending, shut, giving, taking, due, room, less_given, less_taken}
@@ -16,13 +16,6 @@ less_room : (n : ℕ) (p : Pending) → room (less_taken n p) ≡ room p - n
 less_room n shut = omega arith
 less_room n (giving bytes) = omega arith
 less_room n (taking m) = refl
-
-take_two : (a b : ℕ) (l : List ℕ) → take a l ++ take b (drop a l) ≡ take (a + b) l
-take_two zero b l = let e : b ≡ 0 + b = omega arith in ap (λ n. take n l) e
-take_two (suc a) b [] = take-nil b ∙ sym (take-nil (suc a + b))
-take_two (suc a) b (x ∷ l) =
-    let e : suc (a + b) ≡ suc a + b = omega arith in
-    ap (λ y. x ∷ y) (take_two a b l) ∙ ap (λ n. take n (x ∷ l)) e
 
 module _ {m : Machine} (laws : Laws m) where
   pub given_due : (n : ℕ) (s : m.State) → due (m.pending (m.given n s)) ≡ drop n (due (m.pending s))
@@ -68,7 +61,7 @@ module _ {m : Machine} (laws : Laws m) where
   hands [] s = refl
   hands (n ∷ ns) s =
       ap (λ x. take n (due (m.pending s)) ++ x) (hands ns (m.given n s) ∙ ap (take (total ns)) (given_due n s))
-      ∙ take_two n (total ns) (due (m.pending s))
+      ∙ sym (take-add n (total ns) (due (m.pending s)))
 
   takes : (parts : List (List ℕ)) (s : m.State) → taken_all m parts s ≡ m.taken (joined parts) s
   takes [] s = sym (laws.take_none s)

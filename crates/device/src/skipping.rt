@@ -23,12 +23,9 @@ pub fn skip<D: Device>(count: usize, device: &mut D) -> usize
     ensures became { D.state device.new ≡ D.machine.given count (D.state device.old) }
     ensures parts { PartsAreOneMove D.machine }
 {
-    let mut left = count;
     let mut moved = 0;
-    while left > 0 {
-        let size = left.min(SCRATCH);
-        moved += skip_block(size, device);
-        left -= size;
+    for _ in 0..count / SCRATCH {
+        moved += skip_block(SCRATCH, device);
     }
-    moved
+    moved + skip_block(count % SCRATCH, device)
 }

@@ -4,16 +4,14 @@ ghost use Rattle.rules.specs.Rules.{unless};
 ghost use Rattle.rules.specs.Areas.{listed, serves, enters, onward, outside, first_outside, cut, word_serves, one_word, by_words};
 ghost use Rattle.rules.specs.TakingUp.{answered, reach, pieces_of};
 
-use super::pieces::{Piece, Pieces};
+use super::pieces::{BLOCK, Piece, Pieces};
 use super::place::{Broken, refuse_if};
 use super::storage::{Storage, addressable, read_word};
 use format::ccw::Ccw;
 use format::placed::Placed;
 use format::refusal::Refusal;
 
-// The bytes of a block, and of an indirect word.
-const BLOCK: usize = 2048;
-
+// The bytes of an indirect word.
 const WORD: u32 = 4;
 
 // The area of a CCW in a storage, which goes up from its address, or down for read backward.
@@ -102,8 +100,9 @@ impl<'a, S: Storage> Area<'a, S> {
         ensures { listed result ≡ cut self.now.backward self.now.ccw.value.count self.now.ccw.value.address self.now.ccw.value.count }
     {
         let mut pieces = Pieces::new();
-        let mut at = self.ccw.value.address as usize;
-        let mut left = self.ccw.value.count as usize;
+        let Ccw { address, count, .. } = self.ccw.value;
+        let mut at = address as usize;
+        let mut left = usize::from(count);
         while left > 0 {
             let size = left.min(self.serves(at));
             pieces.push(Piece { first: at, size });
@@ -146,7 +145,7 @@ impl<'a, S: Storage> Area<'a, S> {
         let mut pieces = Pieces::new();
         let mut later = false;
         let mut at = self.ccw.value.address;
-        let mut left = self.ccw.value.count as usize;
+        let mut left = usize::from(self.ccw.value.count);
         while left > 0 {
             let piece = self.word_piece(later, at, left)?;
             pieces.push(piece);
@@ -169,10 +168,10 @@ impl<'a, S: Storage> Area<'a, S> {
         } = self.ccw.value;
         if flags.ida {
             let refusal = Refusal::ListMisaligned(self.ccw.address);
-            refuse_if(address % 4 != 0, refusal, self.ccw.address)?;
+            refuse_if(address % WORD != 0, refusal, self.ccw.address)?;
             return self.by_words();
         }
-        self.check_inside(address, count as usize)?;
+        self.check_inside(address, usize::from(count))?;
         Ok(self.cut())
     }
 }

@@ -1,5 +1,8 @@
 use arrayvec::ArrayVec;
 
+// The bytes of a block: no piece is longer.
+pub const BLOCK: usize = 2048;
+
 // No area has more pieces: a count below 65,536 reaches into at most 33 blocks.
 pub const MOST_PIECES: usize = 33;
 

@@ -1,5 +1,5 @@
 // Taking up a place of a channel program: rules 1 to 10, for both formats, over any readable storage.
-// The walk of the translator and the channel both go by this one crate.
+// The walk of the translator and the channel both go by this one crate. It also prints what was taken up, and what was broken.
 #![tactic(auto)]
 
 pub mod area;

@@ -7,7 +7,12 @@ use format::ccw::{Ccw, Format};
 use format::placed::Placed;
 use std::array;
 
-// A storage that can be read: a length, and a byte at each address. A byte past the end reads 0.
+// The bytes of a CCW, which stands at a multiple of them.
+pub const CCW_SIZE: u32 = 8;
+
+// A storage that can be read: a length, and a byte at each address. A byte past the end reads 0, as the definitions have
+// it: rules 2 and 8 come before each read, so an `Option` would ask the readers here for a case that never comes, and a
+// `requires` would ask each of them to prove it, where the proofs of the rules need no such fact.
 pub trait Storage {
     ghost bytes: { Self → List ℕ };
 
@@ -51,13 +56,22 @@ fn bytes_at<S: Storage, const N: usize>(storage: &S, address: u32) -> [u8; N]
     array::from_fn(|i| storage.byte(address as usize + i))
 }
 
-// The CCW at an address.
-pub(crate) fn read_ccw<S: Storage>(storage: &S, format: Format, address: u32) -> Placed<Ccw>
-    ensures value { result.value ≡ ccw_at format (reader (S.bytes storage.now)) address }
-    ensures place { result.address ≡ address }
-{
-    let value = Ccw::decode(format, bytes_at(storage, address));
-    Placed { value, address }
+// The CCWs of a storage, which are all laid out alike.
+#[derive_where(Clone, Copy)]
+pub(crate) struct Ccws<'a, S> {
+    pub(crate) storage: &'a S,
+    pub(crate) format: Format,
+}
+
+impl<'a, S: Storage> Ccws<'a, S> {
+    // The CCW at an address.
+    pub(crate) fn read(&self, address: u32) -> Placed<Ccw>
+        ensures value { result.value ≡ ccw_at self.now.format (reader (S.bytes self.now.storage.now)) address }
+        ensures place { result.address ≡ address }
+    {
+        let value = Ccw::decode(self.format, bytes_at(self.storage, address));
+        Placed { value, address }
+    }
 }
 
 // The indirect word at an address.

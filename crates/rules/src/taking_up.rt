@@ -8,7 +8,7 @@ ghost use Rattle.format.specs.Classes.{class_in};
 use super::area::Area;
 use super::finding::find_ccw;
 use super::place::{Broken, Place, Taken, refuse_if};
-use super::storage::{Storage, read_ccw};
+use super::storage::{Ccws, Storage};
 use format::ccw::{Ccw, Format};
 use format::class::Class;
 use format::flags::Flags;
@@ -65,7 +65,7 @@ pub fn read_up<S: Storage>(
 ) -> Result<Taken, Broken>
     ensures { answered cell_of result ≡ read_up format (reach (S.bytes storage.now)) (reader (S.bytes storage.now)) address command }
 {
-    let ccw = read_ccw(storage, format, address);
+    let ccw = Ccws { storage, format }.read(address);
     let invalid = is_invalid_command(format, command, ccw.value.code);
     refuse_if(invalid, Refusal::CodeInvalid(address), address)?;
     let flagged = has_refused_flag(ccw.value.flags);

@@ -7,7 +7,8 @@ use format::placed::Placed;
 use format::refusal::Refusal;
 
 // Where a program stands: a CCW address, whether none was run before it, and the code of the command
-// in force, if one is.
+// in force, if one is. No enum of these two: rule 3 goes by `first` alone and the later ones by `command` alone, so each of the
+// four pairs has an answer. A run meets three of them, but callers may ask for the fourth.
 #[derive(Clone, Copy, Debug, Default, PartialEq, Eq)]
 pub struct Place {
     pub address: u32,

@@ -10,9 +10,9 @@ use std::array;
 // The bytes of a CCW, which stands at a multiple of them.
 pub const CCW_SIZE: u32 = 8;
 
-// A storage that can be read: a length, and a byte at each address. A byte past the end reads 0, as the definitions have
-// it: rules 2 and 8 come before each read, so an `Option` would ask the readers here for a case that never comes, and a
-// `requires` would ask each of them to prove it, where the proofs of the rules need no such fact.
+// A storage that can be read: a length, and a byte at each address. A byte past the end reads 0, as in the
+// definitions. `take_up` reads no such byte, since rules 2 and 8 come first: with an `Option` each reader would handle a
+// case that never comes. And no public function here has a `requires`: `read_up` answers at every address.
 pub trait Storage {
     ghost bytes: { Self → List ℕ };
 

@@ -19,10 +19,7 @@ use format::refusal::Refusal;
 fn is_invalid_command(format: Format, command: Option<u8>, code: u8) -> bool
     ensures { result ≡ (none_in_force command && is_invalid (class_in format code)) }
 {
-    match command {
-        Some(_) => false,
-        None => Class::in_format(format, code) == Class::Invalid,
-    }
+    command.is_none() && Class::in_format(format, code) == Class::Invalid
 }
 
 fn has_refused_flag(flags: Flags) -> bool

@@ -6,10 +6,7 @@ ghost use Rattle.channel.specs.Moves.{lay};
 
 use device::interface::Device;
 use format::laying::put_at;
-use rules::pieces::{Piece, Pieces};
-
-// The bytes of a block: no piece is longer.
-const BLOCK: usize = 2048;
+use rules::pieces::{BLOCK, Piece, Pieces};
 
 // Storage, piece and device stay parameters here for the reason that stands in step.rt.
 

@@ -13,7 +13,7 @@ use format::ccw::{Ccw, Format};
 use format::class::Class;
 use format::status::StatusWord;
 use rules::place::{Place, Taken};
-use rules::storage::Plain;
+use rules::storage::{CCW_SIZE, Plain};
 use rules::taking_up::take_up;
 
 // Device status: a command is done; none is begun.
@@ -50,7 +50,7 @@ fn skip_area<D: Device>(taken: &Taken, device: &mut D) -> usize
     ensures became { D.state device.new ≡ D.machine.given taken.now.ccw.value.count (D.state device.old) }
     ensures bounded { result ≤ taken.now.ccw.value.count }
 {
-    skip(taken.ccw.value.count as usize, device)
+    skip(usize::from(taken.ccw.value.count), device)
 }
 
 // A writing CCW.
@@ -106,7 +106,7 @@ fn settle<D: Device>(ccw: Ccw, owed: u32, moved: usize, device: &mut D) -> Next
 {
     let still = owed.saturating_sub(moved as u32);
     let residual = ccw.count - moved as u16;
-    if moved == ccw.count as usize && ccw.flags.cd {
+    if moved == usize::from(ccw.count) && ccw.flags.cd {
         return Next::Data { owed: still };
     }
     let incorrect = (residual != 0 || still != 0) && !(ccw.flags.sli && !ccw.flags.cd);
@@ -163,7 +163,7 @@ fn go_on(address: u32, code: u8, next: Next) -> Run
     requires { address + 8 ≤ 2 ^ 31 }
     ensures { result ≡ onwards address code next }
 {
-    let ccw_address = address + 8;
+    let ccw_address = address + CCW_SIZE;
     match next {
         Next::Data { owed } => later(ccw_address, Some(code), owed),
         Next::Command => later(ccw_address, None, 0),
@@ -199,7 +199,7 @@ fn check_program<D: Device>(command: Option<u8>, ccw: u32, device: &mut D) -> Ru
     ensures became { D.state device.new ≡ (checked D.machine command ccw [] (D.state device.old)).state }
 {
     let status = StatusWord {
-        ccw_address: ccw.wrapping_add(8),
+        ccw_address: ccw.wrapping_add(CCW_SIZE),
         device_status: close(command, device),
         subchannel_status: PROGRAM_CHECK,
         residual: 0,

@@ -166,9 +166,3 @@ back_laid v n bs st h fits few =
     let a : ℕ = v + 1 - length bs in
     ap (λ y. take a st ++ (reverse bs ++ y)) (drop-drop (length (reverse bs)) a st)
     ∙ sym (down_laid v n bs st h fits few)
-
-pub lay_take : (k : Bool) (v n : ℕ) (bs st : List ℕ) → lay (run k v n) (take n bs) st ≡ lay (run k v n) bs st
-unfolding run
-lay_take k v zero bs st = sym (lay_nowhere bs st)
-lay_take k v (suc n) [] st = refl
-lay_take k v (suc n) (x ∷ bs) st = lay_take k (onward k v 1) n bs (set st v x)

@@ -1,11 +1,16 @@
 -- What the shape of an area gives the moves.
-use Rattle.std.proofs.Common.{◌≡◌, ℕ, ◌+◌, ◌-◌, ◌≤◌, Bool, true, false, not, ltb, List, [], ◌∷◌, length, take, set, sym, refl, ap, ◌∙◌, arith, length-append}
+use Rattle.std.proofs.Common.{◌≡◌, ℕ, ◌+◌, ◌-◌, ◌≤◌, min, Bool, true, false, cond, not, ltb, List, [], ◌∷◌, length, take, set, sym, refl, ap, ◌∙◌, arith, length-append, length-take}
+use Rattle.std.proofs.Math.ListN.{length-map}
 use Rattle.std.proofs.lemmas.Bool.{lt-ltb, le-ltb, ltb-false, ltb-true, not-false, or_parts, or_from}
 use Rattle.rules.specs.declared.pieces.Piece.{Piece}
 use Rattle.rules.specs.Areas.{outside, area, sizes, Shaped}
 use Rattle.rules.specs.Areas.{run as addresses}
 use Rattle.rules.proofs.AreaSteps.{serves_most}
-use Rattle.channel.specs.Moves.{lay}
+use Rattle.format.specs.Bytes.{reader}
+use Rattle.device.specs.Machine.{Machine, due, room}
+use Rattle.rules.specs.Soundness.{Sound}
+use Rattle.rules.specs.TakingUp.{Cell, backward, reading}
+use Rattle.channel.specs.Moves.{lay, addresses_of, gathered, moved_count}
 use Rattle.channel.proofs.Laying.{length_run}
 
 outside_wider : (k : Bool) (L M v n : ℕ) → L ≤ M → outside k L v n ≡ false → outside k M v n ≡ false
@@ -44,7 +49,8 @@ unfolding area
 length-area k [] = refl
 length-area k (p ∷ ps) = length-append (addresses k p.first p.size) (area k ps) ∙ omega (arith, length_run k p.first p.size, length-area k ps)
 
-lay_cut : (xs bs st : List ℕ) → lay xs (take (length xs) bs) st ≡ lay xs bs st
+-- bytes past the addresses are laid nowhere
+pub lay_cut : (xs bs st : List ℕ) → lay xs (take (length xs) bs) st ≡ lay xs bs st
 lay_cut [] [] st = refl
 lay_cut [] (x ∷ bs) st = refl
 lay_cut (a ∷ xs) [] st = refl
@@ -52,3 +58,14 @@ lay_cut (a ∷ xs) (x ∷ bs) st = lay_cut xs bs (set st a x)
 
 pub lay_area : (k : Bool) (ps : List Piece) (n : ℕ) (bs st : List ℕ) → sizes ps ≡ n → lay (area k ps) bs st ≡ lay (area k ps) (take n bs) st
 lay_area k ps n bs st e = sym (ap (λ j. lay (area k ps) (take j bs) st) (sym (length-area k ps ∙ e)) ∙ lay_cut (area k ps) bs st)
+
+-- no more is moved than the count
+pub moved_within : (m : Machine) (L : ℕ) (t : Cell) (st : List ℕ) (s : m.State) → Sound L t → moved_count m t (gathered t st) s ≤ t.ccw.value.count
+moved_within m L t st s h = go (reading t.code)
+  where
+    held : length (gathered t st) ≡ t.ccw.value.count
+    held = length-map (addresses_of t) (reader st) ∙ length-area (backward t.code) t.pieces ∙ shaped_sizes (backward t.code) L false t.ccw.value.count t.pieces h.shaped
+
+    go : (r : Bool) → cond r (length (take t.ccw.value.count (due (m.pending s)))) (min (length (gathered t st)) (room (m.pending s))) ≤ t.ccw.value.count
+    go true = omega (arith, length-take t.ccw.value.count (due (m.pending s)))
+    go false = omega (arith, held)

@@ -71,7 +71,8 @@ fn read_piece<D: Device>(storage: &mut [u8], backward: bool, piece: Piece, devic
     }
 }
 
-// A reading command: from the device into storage. The count is a parameter of its own, since it bounds the sum.
+// A reading command: from the device into storage. The count is a parameter for the proof alone: it bounds the sum. Tried as a
+// ghost value below 65,536: the callers have the count behind a `&Taken`, where no fact bounds it.
 pub(crate) fn read_pieces<D: Device>(
     storage: &mut [u8],
     backward: bool,
@@ -101,7 +102,7 @@ fn write_piece<D: Device>(storage: &[u8], piece: Piece, device: &mut D) -> usize
     device.take(&storage[first..first + size])
 }
 
-// A writing command: from storage to the device.
+// A writing command: from storage to the device. The count is a parameter for the reason that stands at `read_pieces`.
 pub(crate) fn write_pieces<D: Device>(
     storage: &[u8],
     pieces: &Pieces,

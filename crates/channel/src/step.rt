@@ -16,6 +16,9 @@ use rules::place::{Place, Taken};
 use rules::storage::{CCW_SIZE, Plain};
 use rules::taking_up::take_up;
 
+// The statuses are constants and no enum: each is a byte of a status word, and a device may answer any byte. `unit` has
+// names for what devices answer, but the channel does not know it.
+
 // Device status: a command is done; none is begun.
 const CHANNEL_END_DEVICE_END: u8 = 0x0C;
 
@@ -37,7 +40,6 @@ fn read_area<D: Device>(storage: &mut [u8], taken: &Taken, device: &mut D) -> us
     ensures count { result ≡ length (front taken.now.ccw.value.count (due (D.machine.pending (D.state device.old)))) }
     ensures bytes { storage.new ≡ lay (addresses_of (cell_of taken.now)) (front taken.now.ccw.value.count (due (D.machine.pending (D.state device.old)))) storage.old }
     ensures became { D.state device.new ≡ D.machine.given taken.now.ccw.value.count (D.state device.old) }
-    ensures bounded { result ≤ taken.now.ccw.value.count }
 {
     let backward = Class::from(taken.code).backward();
     let count = taken.ccw.value.count;
@@ -48,7 +50,6 @@ fn read_area<D: Device>(storage: &mut [u8], taken: &Taken, device: &mut D) -> us
 fn skip_area<D: Device>(taken: &Taken, device: &mut D) -> usize
     ensures count { result ≡ length (front taken.now.ccw.value.count (due (D.machine.pending (D.state device.old)))) }
     ensures became { D.state device.new ≡ D.machine.given taken.now.ccw.value.count (D.state device.old) }
-    ensures bounded { result ≤ taken.now.ccw.value.count }
 {
     skip(usize::from(taken.ccw.value.count), device)
 }
@@ -58,7 +59,6 @@ fn write_area<D: Device>(storage: &[u8], taken: &Taken, device: &mut D) -> usize
     requires { (Sound (reach storage.now) (cell_of taken.now)) × (reading taken.now.code ≡ false) }
     ensures count { result ≡ min (length (gathered (cell_of taken.now) storage.now)) (room (D.machine.pending (D.state device.old))) }
     ensures became { D.state device.new ≡ D.machine.taken (gathered (cell_of taken.now) storage.now) (D.state device.old) }
-    ensures bounded { result ≤ taken.now.ccw.value.count }
 {
     write_pieces(storage, &taken.pieces, taken.ccw.value.count, device)
 }
@@ -69,7 +69,6 @@ fn move_area<D: Device>(storage: &mut [u8], taken: &Taken, device: &mut D) -> us
     ensures count { result ≡ moved_count D.machine (cell_of taken.now) (gathered (cell_of taken.now) storage.old) (D.state device.old) }
     ensures bytes { storage.new ≡ lay (addresses_of (cell_of taken.now)) (moved_bytes D.machine (cell_of taken.now) (D.state device.old)) storage.old }
     ensures became { D.state device.new ≡ moved_state D.machine (cell_of taken.now) (gathered (cell_of taken.now) storage.old) (D.state device.old) }
-    ensures bounded { result ≤ taken.now.ccw.value.count }
 {
     if !Class::from(taken.code).reads() {
         write_area(storage, taken, device)
@@ -182,7 +181,8 @@ fn go_on(address: u32, code: u8, next: Next) -> Run
     }
 }
 
-// Ends a command that this program began, and answers its status, 00 if there is none.
+// Ends a command that this program began, and answers its status, 00 if there is none. Tried `map_or` with a closure that ends
+// the command: what `device` became through it stays open.
 pub fn close<D: Device>(command: Option<u8>, device: &mut D) -> u8
     ensures answer { result ≡ (closed D.machine command (D.state device.old)).0 }
     ensures became { D.state device.new ≡ (closed D.machine command (D.state device.old)).1 }

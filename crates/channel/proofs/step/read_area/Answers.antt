@@ -29,5 +29,4 @@ returns g c =
       count = done.moved ∙ ap (λ j. min j (length (due (m.pending s)))) e ∙ sym (length-take count (due (m.pending s)));
       bytes = done.bytes ∙ ap (λ k. lay (area k (listed t.pieces)) (due (m.pending s)) st) b ∙ lay_area (backward t.code) (listed t.pieces) count (due (m.pending s)) st e;
       became = done.became ∙ ap (λ j. m.given j s) e;
-      bounded = omega (arith, done.moved, e);
     }

@@ -30,5 +30,4 @@ returns g c =
     record {
       count = done.moved ∙ ap (λ j. min j (room (m.pending s))) (sym len);
       became = done.became ∙ ap (λ k. m.taken (map (reader st) (area k (listed t.pieces))) s) (sym f);
-      bounded = omega (arith, done.moved, e);
     }

@@ -13,7 +13,8 @@ use format::ccw::Format;
 use format::status::StatusWord;
 use rules::place::Place;
 
-// A channel program under way: how its CCWs are laid out, and where it stands.
+// A channel program under way: how its CCWs are laid out, and where it stands. Callers go on with the format, and no type
+// says that a call through `&mut` keeps a field: so `step`, `advance` and `halt` have a clause each that it stays.
 #[derive(Clone, Copy, Debug, PartialEq, Eq)]
 pub struct Program {
     pub format: Format,

@@ -23,7 +23,7 @@ enum Phase {
 }
 
 // What is a console's own: what has been printed, the line that waits, and the open command.
-#[derive(Drop)]
+#[derive(Debug, Drop)]
 pub struct ConsoleModel {
     paper: ArrayVec<u8, PAPER>,
     line: ArrayVec<u8, LINE>,

@@ -1,7 +1,8 @@
 -- Bytes that lie within a store.
-use Rattle.std.proofs.Common.{◌≡◌, ℕ, ◌+◌, ◌≤◌, List, ◌++◌, length, take, drop, replicate, sym, refl, ap, ◌∙◌, arith, length-append, length-drop, length-take}
-use Rattle.std.proofs.lemmas.List.{append_assoc, drop_at, drop-take, length-take-le, take-append-le, take_at}
+use Rattle.std.proofs.Common.{◌≡◌, ℕ, zero, suc, ◌+◌, ◌*◌, ◌<◌, ◌≤◌, List, ◌++◌, length, get_or, take, drop, replicate, sym, refl, ap, ◌∙◌, arith, length-append, length-drop, length-take}
+use Rattle.std.proofs.lemmas.List.{append_assoc, drop-drop, drop_at, drop-take, length-take-le, take-append-le, take_at}
 use Rattle.std.proofs.lemmas.Slice.{take-put_mid_below, drop-put_mid}
+use Rattle.std.specs.Simd.{first_chunks}
 use Rattle.format.specs.Laying.{put_at}
 use Rattle.disk.specs.Blocks.{size_of, address_of, bytes_at, blocks_at, block_at}
 
@@ -26,6 +27,20 @@ block_from block start n store first_byte size h =
     ap (λ a. take n (drop a store)) first_byte
     ∙ ap (λ k. take k (drop (address_of block) store)) size
     ∙ bytes_within (address_of block) 512 store fits
+
+chunk_at : (k count : ℕ) (store default : List ℕ) → k < count → get_or (first_chunks 512 count store) k default ≡ take 512 (drop (512 * k) store)
+chunk_at k zero store default h = absurd (omega arith)
+chunk_at zero (suc count) store default h = refl
+chunk_at (suc k) (suc count) store default h =
+    let further : 512 + 512 * k ≡ 512 * suc k = omega arith in
+    chunk_at k count (drop 512 store) default (omega arith)
+    ∙ ap (take 512) (drop-drop (512 * k) 512 store)
+    ∙ ap (λ n. take 512 (drop n store)) further
+
+-- a chunk of a store's bytes is a block
+pub chunk_is_block : (k count : ℕ) (store default : List ℕ) → k < count → 512 * count ≤ length store → get_or (first_chunks 512 count store) k default ≡ block_at k store
+chunk_is_block k count store default inside fits =
+    chunk_at k count store default inside ∙ block_from k (512 * k) 512 store refl refl (omega arith)
 
 -- bytes that were put within a store are found where they were put
 pub put_is_found : (address n : ℕ) (new store : List ℕ) → length new ≡ n → address ≤ length store → bytes_at address n (put_at address new store) ≡ new

@@ -1,5 +1,5 @@
-ghost use Rattle.std.specs.Prelude.{◌≡◌, ◌+◌, ◌<◌, ◌≤◌, length};
-ghost use Rattle.disk.specs.Blocks.{address_of, block_at, range_exists};
+ghost use Rattle.std.specs.Prelude.{◌≡◌, ◌+◌, ◌≤◌};
+ghost use Rattle.disk.specs.Blocks.{address_of, range_exists};
 ghost use Rattle.disk.specs.Naming.{named_by, naming};
 
 use crate::extent::Extent;
@@ -73,13 +73,4 @@ pub(crate) fn address_of(block: usize) -> usize
     ensures { result ≡ address_of block }
 {
     block * BLOCK_SIZE
-}
-
-// The bytes of a block.
-pub(crate) fn block_of(store: &[u8], block: usize) -> &[u8]
-    requires { (block < 64) × (length store.now ≡ 32768) }
-    ensures { result.now ≡ block_at block store.now }
-{
-    let start = address_of(block);
-    &store[start..start + BLOCK_SIZE]
 }

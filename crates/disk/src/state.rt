@@ -13,7 +13,7 @@ pub mod commands;
 const PARAMETERS: usize = 4;
 
 // What the open command does.
-#[derive(Drop)]
+#[derive(Debug, Drop, PartialEq, Eq)]
 enum Phase {
     Idle,
     // A locate, and the parameters that it has taken.
@@ -24,7 +24,7 @@ enum Phase {
 }
 
 // What is a disk's own.
-#[derive(Drop)]
+#[derive(Debug, Drop)]
 pub struct DiskModel {
     bytes: [u8; STORE_SIZE],
     location: Option<Location>,

@@ -50,7 +50,8 @@ pub fn read_blocks(disk: &mut Disk, location: Location, buffer: &mut [u8]) -> us
     n
 }
 
-// Writes the bytes to blocks and reads them back, if the blocks exist.
+// Writes the bytes to blocks and reads them back, if the blocks exist. The answer is whether they do, which the
+// location alone tells: it is no mark on what the buffer holds, which is the caller's and is kept where they don't.
 pub fn write_and_read_back(
     disk: &mut Disk,
     location: Location,

@@ -1,5 +1,5 @@
 -- Bytes that are cut into blocks of given lengths.
-use Rattle.std.proofs.Common.{◌≡◌, ℕ, zero, suc, ◌+◌, ◌-◌, ◌<◌, ◌≤◌, min, List, [], ◌∷◌, ◌++◌, length, get_or, take, drop, sum, refl, ap, ◌∙◌, arith, length-take, length-drop}
+use Rattle.std.proofs.Common.{◌≡◌, ℕ, zero, suc, ◌+◌, ◌-◌, ◌<◌, ◌≤◌, min, List, [], ◌∷◌, ◌++◌, length, get_or, take, drop, sum, sym, refl, ap, ◌∙◌, arith, length-take, length-drop}
 use Rattle.std.proofs.lemmas.Grind.{common_steps}
 use Rattle.std.proofs.lemmas.List.{drop-take}
 use Rattle.std.proofs.lemmas.List.Sums.{sum_by-cons, sum_by_more, sum_by_push, sum_by-take-le}
@@ -65,6 +65,9 @@ bytes_before k sizes all h =
 pub room_is : (sizes all : List ℕ) → sum sizes ≤ length all → room_after (stored sizes all).blocks - length (stored sizes all).written ≡ min 4096 (8192 - sum sizes) - (length all - sum sizes)
 room_is sizes all h = omega (arith, cut_bytes sizes all h, length-drop (sum sizes) all)
 
+pub written_size : (sizes all : List ℕ) (reel : ReelState) → stored sizes all ≡ reel → length reel.written ≡ length all - sum sizes
+written_size sizes all reel view = omega (arith, ap (λ r. length r.written) view, length-drop (sum sizes) all)
+
 -- what a change of the lengths and the bytes makes of the blocks and of what is written
 
 pub truncated : (k : ℕ) (sizes all : List ℕ) → stored (take k sizes) (take (sum (take k sizes)) all) ≡ record { blocks = take k (stored sizes all).blocks; written = [] }
@@ -121,11 +124,26 @@ fits_closed sizes all fits few some =
       small = fits.small;
     }
 
+-- the block at an index begins where the blocks before it end, and ends within the bytes
+
+begins_at : (k : ℕ) (sizes all : List ℕ) (reel : ReelState) → stored sizes all ≡ reel → sum sizes ≤ length all → bytes_in (take k reel.blocks) ≡ sum (take k sizes)
+begins_at k sizes all reel view there =
+    ap (λ r. bytes_in (take k r.blocks)) (sym view) ∙ bytes_before k sizes all there
+
+pub ends_within : (sizes all bytes : List ℕ) (k start n : ℕ) (reel : ReelState) → stored sizes all ≡ reel → ReelFits sizes all → bytes ≡ all → k < length sizes → start ≡ bytes_in (take k reel.blocks) → n ≡ get_or sizes k 0 → start + n ≤ length bytes
+ends_within sizes all bytes k start n reel view fits whole inside before size =
+    let there = fits.there in
+    let begins = begins_at k sizes all reel view there in
+    let more = sum_by_more (λ x. x) sizes k 0 inside in
+    let part = sum_by-take-le (λ x. x) sizes (k + 1) in
+    omega (arith, ap length whole)
+
 -- the block at an index, of bytes that are all of them
-pub found : (sizes all bytes : List ℕ) (k start n : ℕ) (reel : ReelState) → stored sizes all ≡ reel → ReelFits sizes all → bytes ≡ all → k < length sizes → start ≡ sum (take k sizes) → n ≡ get_or sizes k 0 → (k < length reel.blocks) × (take (start + n - start) (drop start bytes) ≡ get_or reel.blocks k []) × (0 < length (take (start + n - start) (drop start bytes))) × (length (take (start + n - start) (drop start bytes)) ≤ 8192)
-found sizes all bytes k start n reel view fits whole inside begins size =
+pub found : (sizes all bytes : List ℕ) (k start n : ℕ) (reel : ReelState) → stored sizes all ≡ reel → ReelFits sizes all → bytes ≡ all → k < length sizes → start ≡ bytes_in (take k reel.blocks) → n ≡ get_or sizes k 0 → (k < length reel.blocks) × (take (start + n - start) (drop start bytes) ≡ get_or reel.blocks k []) × (0 < length (take (start + n - start) (drop start bytes))) × (length (take (start + n - start) (drop start bytes)) ≤ 8192)
+found sizes all bytes k start n reel view fits whole inside before size =
     let there = fits.there in
     let small = fits.small in
+    let begins : start ≡ sum (take k sizes) = before ∙ begins_at k sizes all reel view there in
     let filled = fits.filled k inside in
     let count = cut_count sizes all in
     let blocks = ap (λ r. length r.blocks) view in
@@ -141,4 +159,4 @@ found sizes all bytes k start n reel view fits whole inside begins size =
       omega arith,
     )
 
-pub ruleset cuts = (cut_count, cut_at, cut_bytes, bytes_before, truncated, appended, closed, fits_truncated, fits_closed, room_is)
+pub ruleset cuts = (cut_count, cut_at, cut_bytes, bytes_before, truncated, appended, closed, fits_truncated, fits_closed, room_is, ends_within)

@@ -18,8 +18,10 @@ pub(crate) const CAPACITY: usize = 8192;
 const LONGEST: usize = 4096;
 
 // The blocks of a tape, one after the other, and behind them the bytes of a block that is being written.
-// A block is as many bytes as its length says, behind those of the blocks before it.
-#[derive(Drop)]
+// A block is as many bytes as its length says, behind those of the blocks before it. The lengths stand beside
+// the bytes since there is no heap: all blocks share one fixed memory of 8,192 bytes, where 64 blocks with a
+// memory of their own would each need the longest one's 4,096.
+#[derive(Debug, Drop)]
 pub(crate) struct Reel {
     bytes: ArrayVec<u8, CAPACITY>,
     lengths: ArrayVec<usize, BLOCKS>,
@@ -84,7 +86,7 @@ impl Reel {
         ensures { MatchOption result (length self.now.blocks ≤ index) (λ found. (index < length self.now.blocks) × (found.now ≡ slice_index_or self.now.blocks index []) × (0 < length found.now) × (length found.now ≤ 8192)) }
     {
         let length = *self.lengths.get(index)?;
-        let start = total(&self.lengths[..index]);
+        let start = self.start_of(index);
         Some(&self.bytes[start..start + length])
     }
 
@@ -100,9 +102,7 @@ impl Reel {
         ensures { result ≡ room_after self.now.blocks - length self.now.written }
     {
         let start = total(&self.lengths);
-        LONGEST
-            .min(CAPACITY - start)
-            .saturating_sub(self.bytes.len() - start)
+        LONGEST.min(CAPACITY - start).saturating_sub(self.written())
     }
 
     // Drops what stands past the first blocks.
@@ -130,6 +130,7 @@ impl Reel {
         requires some { 0 < length self.old.written }
         ensures { self.new ≡ record { blocks = self.old.blocks ++ self.old.written ∷ []; written = [] } }
     {
-        self.lengths.push(self.bytes.len() - total(&self.lengths));
+        let written = self.written();
+        self.lengths.push(written);
     }
 }

@@ -17,7 +17,7 @@ enum Phase {
 }
 
 // What is a tape's own.
-#[derive(Drop)]
+#[derive(Debug, Drop)]
 pub struct TapeModel {
     reel: Reel,
     position: usize,

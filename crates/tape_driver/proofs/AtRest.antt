@@ -1,6 +1,6 @@
 -- A tape with nothing open: what writes and reads make of it, and the theorems.
 use Rattle.std.proofs.Common.{◌≡◌, ℕ, zero, suc, ◌+◌, ◌-◌, ◌<◌, ◌≤◌, min, Bool, true, false, cond, eqb, List, [], ◌∷◌, ◌++◌, reverse, length, get_or, take, drop, Ok, Result, sym, refl, ap, ◌∙◌, arith, length-take}
-use Rattle.std.proofs.lemmas.List.{take_all, take_at, take-take, take-append-le, drop_more, length_push, get_or_push}
+use Rattle.std.proofs.lemmas.List.{length-take-le, take_all, take_at, take-take, take-append-le, drop_more, length_push, get_or_push}
 use Rattle.std.proofs.lemmas.Bool.{cond-true, lt-ltb, ne_eqb, and_from}
 use Rattle.device.specs.Machine.{shut, due}
 use Rattle.unit.specs.UnitMachine.{UnitState, sense_after}
@@ -79,16 +79,13 @@ hears_all (suc n) sense stored p h =
     ∙ ap (λ x. next ∷ x) (hears_all n sense stored (p + 1) (omega arith))
     ∙ ap (take (suc n)) (sym (drop_more stored p [] inside))
 
-kept_size : (stored : List (List ℕ)) (p : ℕ) → p ≤ length stored → length (take p stored) ≡ p
-kept_size stored p h = omega (arith, length-take p stored)
-
 pub written_is_read_back : WrittenIsReadBack
 written_is_read_back offered u (idle, on_tape) (few, some, fits) =
     let sense = u.sense in
     let stored = u.core.blocks in
     let p = u.core.position in
     let after = take p stored ++ offered ∷ [] in
-    let size : length after ≡ p + 1 = length_push (take p stored) offered ∙ ap (λ n. n + 1) (kept_size stored p on_tape) in
+    let size : length after ≡ p + 1 = length_push (take p stored) offered ∙ ap (λ n. n + 1) (length-take-le p stored on_tape) in
     ap (λ x. all_heard (p + 1) (after_rewind (after_write offered x))) (rests_as u idle)
     ∙ ap (λ x. all_heard (p + 1) (after_rewind x)) (writes sense stored p offered few some fits)
     ∙ hears_all (p + 1) sense after 0 (omega arith)
@@ -105,7 +102,7 @@ written_is_read_backward offered n u (idle, on_tape) (few, some, fits) =
     let written : after_write offered u ≡ resting sense after (p + 1) = ap (after_write offered) (rests_as u idle) ∙ writes sense stored p offered few some fits in (
       ap (heard 0x0C) written
           ∙ hears_backward sense after (p + 1) past
-          ∙ ap reverse (get_or_push (take p stored) offered [] (p + 1 - 1) (kept_size stored p on_tape ∙ sym back)),
+          ∙ ap reverse (get_or_push (take p stored) offered [] (p + 1 - 1) (length-take-le p stored on_tape ∙ sym back)),
       ap (λ x. (after_read 0x0C n x).core.position) written
           ∙ ap (λ x. x.core.position) (passes_backward sense after (p + 1) n past)
           ∙ back,

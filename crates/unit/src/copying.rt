@@ -24,12 +24,13 @@ pub fn hand_out(buffer: &mut [u8], bytes: &[u8], gone: usize) -> usize
     copy_first(buffer, &bytes[start..])
 }
 
-// Writes the bytes behind those of the sheet, as many as there is room for, and says how many.
-pub fn append<const N: usize>(sheet: &mut ArrayVec<u8, N>, bytes: &[u8]) -> usize
-    ensures count { result ≡ min (length bytes.now) (N - array_vec_len sheet.old) }
-    ensures appended { sheet.new.items ≡ sheet.old.items ++ take (N - array_vec_len sheet.old) bytes.now }
+// Keeps the bytes behind those that are held, as many as there is room for, and says how many.
+pub fn append<const N: usize>(held: &mut ArrayVec<u8, N>, bytes: &[u8]) -> usize
+    ensures count { result ≡ min (length bytes.now) (N - array_vec_len held.old) }
+    ensures appended { held.new.items ≡ held.old.items ++ take (N - array_vec_len held.old) bytes.now }
 {
-    let count = bytes.len().min(sheet.remaining_capacity());
-    let _fits = sheet.try_extend_from_slice(&bytes[..count]);
+    let count = bytes.len().min(held.remaining_capacity());
+    // They fit, as no more of them are kept than there is room for.
+    let _fits = held.try_extend_from_slice(&bytes[..count]);
     count
 }

@@ -3,6 +3,7 @@ ghost use Rattle.device.specs.Machine.{due, room};
 ghost use Rattle.unit.specs.Core.{Core, is_open, unknown_command};
 ghost use Rattle.unit.specs.CoreLaws.{CoreLaws};
 
+use crate::sense::{COMMAND_REJECT, INTERVENTION_REQUIRED};
 use crate::status::{FAILED, REFUSED};
 use device::interface::Begun;
 use std::error::Error;
@@ -18,7 +19,7 @@ pub struct Fault {
 // The answer to a command that needs paper, a line, a byte or a block where none is left.
 pub const NOTHING_LEFT: Fault = Fault {
     status: FAILED,
-    sense: 0x40,
+    sense: INTERVENTION_REQUIRED,
 };
 
 impl Fault {
@@ -28,7 +29,7 @@ impl Fault {
     {
         Fault {
             status: REFUSED,
-            sense: 0x80,
+            sense: COMMAND_REJECT,
         }
     }
 }

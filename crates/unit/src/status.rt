@@ -1,6 +1,9 @@
 // The statuses that a device answers. They are constants and no enum: a status is a byte of the status word,
 // and a device may answer any.
 
+// No command was open that could end.
+pub const NO_STATUS: u8 = 0x00;
+
 // A command is open.
 pub const BUSY: u8 = 0x10;
 

@@ -96,7 +96,7 @@ impl DeviceModel for ConsoleModel {
     }
 
     fn end(&mut self) -> Result<u8, Fault> {
-        if let Phase::ReadingLine(_) = self.phase {
+        if matches!(self.phase, Phase::ReadingLine(_)) {
             self.line.clear();
         }
         self.phase = Phase::Idle;

@@ -5,7 +5,7 @@ ghost use Rattle.disk.specs.DiskState.{Whole};
 ghost use Rattle.disk.specs.Meaning.{meaning, model_meaning};
 
 use super::{Disk, DiskModel, Phase};
-use crate::blocks::{BLOCKS, Location, STORE_SIZE, block_of};
+use crate::blocks::{BLOCK_SIZE, Location, STORE_SIZE};
 use unit::state::Unit;
 
 // A disk that holds these bytes, with no location and nothing open.
@@ -47,10 +47,9 @@ impl DiskModel {
     pub fn block(&self, index: usize) -> Option<&[u8]>
         ensures { MatchOption result (64 ≤ index) (λ found. (index < 64) × (found.now ≡ block_at index (model_meaning self.now).bytes)) }
     {
-        if index >= BLOCKS {
-            return None;
-        }
-        Some(block_of(&self.bytes, index))
+        let (blocks, _) = self.bytes.as_chunks::<BLOCK_SIZE>();
+        let block = blocks.get(index)?;
+        Some(block)
     }
 
     // The blocks that the next write or read is for.

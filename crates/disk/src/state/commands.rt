@@ -14,10 +14,8 @@ use format::laying::put_at;
 use std::mem;
 use unit::copying::{append, hand_out};
 use unit::model::{Fault, Model as DeviceModel};
+use unit::sense::COMMAND_REJECT;
 use unit::status::{ENDED, FAILED, REFUSED};
-
-// The sense byte of a command that names no blocks.
-const COMMAND_REJECT: u8 = 0x80;
 
 // The answer to a write or a read without a location.
 const NOT_LOCATED: Fault = Fault {
@@ -58,26 +56,6 @@ impl DiskModel {
         let location = self.location.ok_or(NOT_LOCATED)?;
         Ok(location.extent())
     }
-
-    // Opens a write of the located blocks.
-    fn begin_write(&mut self) -> Result<Begun, Fault>
-        ensures answer { result ≡ (begin_write self.old.location (model_meaning self.old)).0 }
-        ensures became { model_meaning self.new ≡ (begin_write self.old.location (model_meaning self.old)).1 }
-    {
-        let extent = self.located()?;
-        self.phase = Phase::Writing(extent);
-        Ok(open_for(extent.size()))
-    }
-
-    // Opens a read of the located blocks.
-    fn begin_read(&mut self) -> Result<Begun, Fault>
-        ensures answer { result ≡ (begin_read self.old.location (model_meaning self.old)).0 }
-        ensures became { model_meaning self.new ≡ (begin_read self.old.location (model_meaning self.old)).1 }
-    {
-        let extent = self.located()?;
-        self.phase = Phase::Reading(extent);
-        Ok(open_for(extent.size()))
-    }
 }
 
 impl DeviceModel for DiskModel {
@@ -88,18 +66,23 @@ impl DeviceModel for DiskModel {
     ghost state = { model_meaning };
 
     fn is_open(&self) -> bool {
-        !matches!(self.phase, Phase::Idle)
+        self.phase != Phase::Idle
     }
 
     fn begin(&mut self, code: u8) -> Result<Begun, Fault> {
-        match Code::try_from(code)? {
-            Code::Locate => {
-                self.phase = Phase::Locating(ArrayVec::new());
-                Ok(open_for(PARAMETERS))
+        let (phase, size) = match Code::try_from(code)? {
+            Code::Locate => (Phase::Locating(ArrayVec::new()), PARAMETERS),
+            Code::Write => {
+                let extent = self.located()?;
+                (Phase::Writing(extent), extent.size())
             }
-            Code::Write => self.begin_write(),
-            Code::Read => self.begin_read(),
-        }
+            Code::Read => {
+                let extent = self.located()?;
+                (Phase::Reading(extent), extent.size())
+            }
+        };
+        self.phase = phase;
+        Ok(open_for(size))
     }
 
     fn give(&mut self, buffer: &mut [u8]) -> usize {

@@ -7,7 +7,9 @@ use super::{Phase, Tape, TapeModel};
 use crate::reel::Reel;
 use unit::state::Unit;
 
-// A rewound tape with the blocks of these lengths that the bytes are cut into, or none if they do not fit.
+// A rewound tape with the blocks of these lengths that the bytes are cut into, or none if they do not fit. The
+// blocks come as a reel keeps them, all bytes in a row and the lengths to cut them by, and are copied at once;
+// a slice of slices would have to be gathered block by block.
 pub fn new_tape(bytes: &[u8], lengths: &[usize]) -> Option<Tape>
     ensures { MatchOption result (Holdable bytes.now lengths.now → ⊥) (λ made. Holdable bytes.now lengths.now × (meaning made ≡ at_first (cut lengths.now bytes.now))) }
 {

@@ -8,6 +8,7 @@ use crate::code::{Code, Direction};
 use crate::reel::{BLOCKS, CAPACITY};
 use crate::reversing::hand_out_in;
 use device::interface::Begun;
+use std::mem;
 use unit::model::{Fault, Model as DeviceModel, NOTHING_LEFT};
 use unit::status::ENDED;
 
@@ -97,9 +98,7 @@ impl DeviceModel for TapeModel {
     }
 
     fn end(&mut self) -> Result<u8, Fault> {
-        let phase = self.phase;
-        self.phase = Phase::Idle;
-        match phase {
+        match mem::replace(&mut self.phase, Phase::Idle) {
             Phase::Idle => {}
             Phase::Writing => {
                 if self.reel.written() > 0 {

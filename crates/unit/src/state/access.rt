@@ -4,6 +4,7 @@ ghost use Rattle.unit.specs.UnitMachine.{unit_at_first};
 
 use super::{Sensing, Unit};
 use crate::model::Model;
+use crate::sense::CLEAR;
 
 impl<M: Model> Unit<M> {
     // A device of this model, with sense 00 and no sense command open.
@@ -13,7 +14,7 @@ impl<M: Model> Unit<M> {
     {
         Unit {
             model,
-            sense: 0x00,
+            sense: CLEAR,
             sensing: Sensing::Closed,
         }
     }

@@ -6,7 +6,8 @@ ghost use Rattle.unit.specs.UnitLaws.{unit_laws};
 
 use super::{Sensing, Unit};
 use crate::model::{Fault, Model};
-use crate::status::{BUSY, ENDED};
+use crate::sense::CLEAR;
+use crate::status::{BUSY, ENDED, NO_STATUS};
 use device::interface::{Begun, Device};
 
 // The codes that each device knows. They are constants and no enum, since any other code is the model's.
@@ -87,10 +88,10 @@ impl<M: Model> Device for Unit<M> {
             };
         }
         if self.sensing == Sensing::Closed {
-            return 0x00;
+            return NO_STATUS;
         }
         self.sensing = Sensing::Closed;
-        self.sense = 0x00;
+        self.sense = CLEAR;
         ENDED
     }
 }

@@ -1,5 +1,5 @@
 -- What was written reads back.
-use Rattle.std.proofs.Common.{◌≡◌, ℕ, ◌+◌, ◌*◌, ◌/◌, ◌%◌, ◌<◌, ◌≤◌, Bool, true, false, cond, eqb, sym, refl, ap, ◌∙◌, mul-zero, mul-one, arith}
+use Rattle.std.proofs.Common.{◌≡◌, ℕ, ◌+◌, ◌*◌, ◌/◌, ◌%◌, ◌<◌, ◌≤◌, Bool, true, false, List, cond, eqb, sym, refl, ap, ◌∙◌, mul-zero, mul-one, arith}
 use Rattle.format.specs.declared.flags.Flags.{Flags}
 use Rattle.format.specs.declared.ccw.Ccw.{Ccw}
 use Rattle.format.specs.declared.ccw.Format.TheVariants.{One}
@@ -51,6 +51,10 @@ flags_back f =
     let on0 : on 1 (flags_byte f) ≡ f.mida = ap (λ n. eqb n 1) i0 ∙ k.1.is in
     λ i. record { cd = on7 i; cc = on6 i; sli = on5 i; skip = on4 i; pci = on3 i; ida = on2 i; suspend = on1 i; mida = on0 i }
 
+-- and from a number that is said to be their byte
+pub flags_back_from : (f : Flags) (byte : ℕ) → byte ≡ flags_byte f → flags_of byte ≡ f
+flags_back_from f byte is = ap flags_of is ∙ flags_back f
+
 pub half_word_back : (n : ℕ) → n < 65536 → (n / 256 * 256 + n % 256) % 65536 ≡ n
 half_word_back n h = omega arith
 
@@ -62,3 +66,7 @@ pub ccw_back : (w : Ccw) → w.code < 256 → w.count < 65536 → ccw_at One (re
 ccw_back w c n =
     let code : w.code % 256 ≡ w.code = omega arith in
     λ i. record { code = code i; flags = flags_back w.flags i; count = half_word_back w.count n i; address = word_back w.address i }
+
+-- and from a list that is said to be them
+pub ccw_back_from : (w : Ccw) (bytes : List ℕ) → bytes ≡ ccw_bytes w → w.code < 256 → w.count < 65536 → ccw_at One (reader bytes) 0 ≡ w
+ccw_back_from w bytes is c n = ap (λ b. ccw_at One (reader b) 0) is ∙ ccw_back w c n

@@ -9,7 +9,8 @@ pub(crate) fn three_bytes(bytes: [u8; 3]) -> u32
     u32::from_be_bytes([0, high, middle, low])
 }
 
-// The number in four bytes: an address of format 1, or an indirect word.
+// The number in four bytes: the address of a format 1 CCW, or an indirect word. A promise to callers: rules reads its
+// indirect words by `u32::from_be_bytes` itself.
 pub fn word(bytes: [u8; 4]) -> u32
     ensures { result ≡ word_at (reader bytes) 0 }
 {

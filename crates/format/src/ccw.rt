@@ -3,7 +3,7 @@ ghost use Rattle.format.specs.Bytes.{reader};
 ghost use Rattle.format.specs.Layouts.{ccw_at, ccw_bytes};
 ghost use Rattle.format.specs.Texts.{digit_of};
 
-use super::big_endian::three_bytes;
+use super::big_endian::{three_bytes, word};
 use super::flags::Flags;
 use std::fmt;
 
@@ -49,24 +49,19 @@ impl Ccw {
                 code: bytes[0],
                 flags: Flags::from(bytes[1]),
                 count: u16::from_be_bytes([bytes[2], bytes[3]]),
-                address: u32::from_be_bytes([bytes[4], bytes[5], bytes[6], bytes[7]]),
+                address: word([bytes[4], bytes[5], bytes[6], bytes[7]]),
             },
         }
     }
 
     // The eight bytes of a format 1 CCW, from which it comes back.
+    #[tactic(auto, using(crate::proofs::ReadBack::ccw_back_from))]
     pub fn encode(self) -> [u8; 8]
         ensures is { result ≡ ccw_bytes self }
         ensures back { ccw_at Format.One (reader result) 0 ≡ self }
     {
-        lay_out(self)
+        let [c0, c1] = self.count.to_be_bytes();
+        let [a0, a1, a2, a3] = self.address.to_be_bytes();
+        [self.code, u8::from(self.flags), c0, c1, a0, a1, a2, a3]
     }
-}
-
-fn lay_out(ccw: Ccw) -> [u8; 8]
-    ensures { result ≡ ccw_bytes ccw }
-{
-    let [c0, c1] = ccw.count.to_be_bytes();
-    let [a0, a1, a2, a3] = ccw.address.to_be_bytes();
-    [ccw.code, u8::from(ccw.flags), c0, c1, a0, a1, a2, a3]
 }

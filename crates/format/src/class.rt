@@ -17,19 +17,6 @@ pub enum Class {
     ReadBackward,
 }
 
-// A TIC of format 1 is exactly 08.
-fn only_eight(format: Format, code: u8, class: Class) -> Class
-    requires { class ≡ class_of code }
-    ensures { result ≡ class_in format code }
-{
-    match (format, class) {
-        (Format::One, Class::TransferInChannel) => {
-            if code == 8 { class } else { Class::Invalid }
-        }
-        _ => class,
-    }
-}
-
 // The class of a code by its low half and its low two bits, whatever the format.
 impl From<u8> for Class {
     ghost from_gives = { λ code class. class ≡ class_of code };
@@ -51,11 +38,16 @@ impl From<u8> for Class {
 
 impl Class {
     // The class of a code in a format, which is its entry in the table of all 256.
+    #[tactic(auto, using(crate::proofs::ClassTable::class_tabled))]
     pub fn in_format(format: Format, code: u8) -> Class
         ensures is { result ≡ class_in format code }
         ensures tabled { result ≡ slice_index_or (class_table format) code Class.Invalid }
     {
-        only_eight(format, code, Class::from(code))
+        match (format, Class::from(code)) {
+            // a TIC of format 1 is exactly 08
+            (Format::One, Class::TransferInChannel) if code != 8 => Class::Invalid,
+            (_, class) => class,
+        }
     }
 
     // Whether such a command moves bytes from the device into storage.

@@ -1,7 +1,8 @@
 ghost use Rattle.std.specs.Prelude.{◌≡◌, ℕ, ◌<◌};
 ghost use Rattle.format.specs.FlagBits.{on, flags_of, flags_byte, any_flag, weight_if};
 
-// The flag byte of a CCW, a name for each bit from 80 down to 01.
+// The flag byte of a CCW, a name for each bit from 80 down to 01. No bit set by `bitflags`, since definitions and callers
+// name each flag.
 #[derive(Clone, Copy, Debug, Default, PartialEq, Eq)]
 pub struct Flags {
     // chain data
@@ -33,20 +34,6 @@ fn weighted(flag: bool, weight: u8) -> u8
     if flag { weight } else { 0 }
 }
 
-fn sum_of_weights(flags: Flags) -> u8
-    ensures { result ≡ flags_byte flags }
-{
-    let high = weighted(flags.cd, 0x80)
-        + weighted(flags.cc, 0x40)
-        + weighted(flags.sli, 0x20)
-        + weighted(flags.skip, 0x10);
-    let low = weighted(flags.pci, 0x08)
-        + weighted(flags.ida, 0x04)
-        + weighted(flags.suspend, 0x02)
-        + weighted(flags.mida, 0x01);
-    high + low
-}
-
 impl From<u8> for Flags {
     ghost from_gives = { λ byte flags. flags ≡ flags_of byte };
 
@@ -68,8 +55,17 @@ impl From<u8> for Flags {
 impl From<Flags> for u8 {
     ghost from_gives = { λ flags byte. (byte ≡ flags_byte flags) × (flags_of byte ≡ flags) };
 
+    #[tactic(auto, using(crate::proofs::ReadBack::flags_back_from))]
     fn from(flags: Flags) -> u8 {
-        sum_of_weights(flags)
+        let high = weighted(flags.cd, 0x80)
+            + weighted(flags.cc, 0x40)
+            + weighted(flags.sli, 0x20)
+            + weighted(flags.skip, 0x10);
+        let low = weighted(flags.pci, 0x08)
+            + weighted(flags.ida, 0x04)
+            + weighted(flags.suspend, 0x02)
+            + weighted(flags.mida, 0x01);
+        high + low
     }
 }
 

@@ -1,4 +1,5 @@
-// What stands in storage and in answers: CCWs of both formats, their flags and command classes, refusals and status words.
+// What stands in storage and in answers: CCWs of both formats, their flags and command classes, values with the address they
+// were read at, refusals and status words; and the laying of bytes into a storage.
 // Nothing here knows of devices, channels or guests.
 #![tactic(auto)]
 

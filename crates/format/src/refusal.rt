@@ -83,26 +83,26 @@ impl Refusal {
         }
     }
 
-    // 0 where the case has none.
+    // The address that the case gives; 0 stands for none, by the rules of docs/REFUSALS.md: so no Option.
     pub fn address(self) -> u32
         ensures { result ≡ address_of self }
     {
         match self {
-            Refusal::Misaligned(address) => address,
-            Refusal::CcwOutside(address) => address,
-            Refusal::TransferMisplaced(address) => address,
-            Refusal::CodeInvalid(address) => address,
-            Refusal::FlagRefused(address) => address,
-            Refusal::CountZero(address) => address,
-            Refusal::ListMisaligned(address) => address,
-            Refusal::WordOutside(address) => address,
-            Refusal::WordOffBoundary(address) => address,
-            Refusal::AreaOutside(address) => address,
-            Refusal::TooManyPlaces(address) => address,
-            Refusal::TooManyWords(address) => address,
-            Refusal::ReadsOverProgram(address) => address,
-            Refusal::StoreOverProgram(address) => address,
-            Refusal::PastGuestEnd(address) => address,
+            Refusal::Misaligned(address)
+            | Refusal::CcwOutside(address)
+            | Refusal::TransferMisplaced(address)
+            | Refusal::CodeInvalid(address)
+            | Refusal::FlagRefused(address)
+            | Refusal::CountZero(address)
+            | Refusal::ListMisaligned(address)
+            | Refusal::WordOutside(address)
+            | Refusal::WordOffBoundary(address)
+            | Refusal::AreaOutside(address)
+            | Refusal::TooManyPlaces(address)
+            | Refusal::TooManyWords(address)
+            | Refusal::ReadsOverProgram(address)
+            | Refusal::StoreOverProgram(address)
+            | Refusal::PastGuestEnd(address) => address,
             _ => 0,
         }
     }

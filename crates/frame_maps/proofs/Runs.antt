@@ -19,11 +19,11 @@ module _ (first count : ℕ) where
       ]
 
   at : (i : ℕ) → i < length (range_with_len first count) → get_or (range_with_len first count) i 0 ≡ first + i
-  at i h = let len = length-range_with_len first count in get_or-range_with_len first count i 0 (omega arith)
+  at i h = let len = run_long in get_or-range_with_len first count i 0 (omega arith)
 
   pub run_lawful : 1 ≤ first → 1 ≤ count → count ≤ 128 → first + count ≤ 256 → Lawful (range_with_len first count) none
   run_lawful from some most last =
-      let len = length-range_with_len first count in (
+      let len = run_long in (
         omega arith,
         omega arith,
         (λ i h. (omega (arith, at i h), omega (arith, at i h))),
@@ -35,7 +35,7 @@ module _ (first count : ℕ) where
   -- what the law asks of a run
   pub run_bounds : Lawful (range_with_len first count) none → (1 ≤ first) × (1 ≤ count) × (count ≤ 128) × (first + count ≤ 256)
   run_bounds l =
-      let len = length-range_with_len first count in
+      let len = run_long in
       let some = l.0 in
       let most = l.1 in
       let from = (l.2 0 (omega arith)).0 in

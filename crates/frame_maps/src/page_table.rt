@@ -9,7 +9,7 @@ use map::interface::{MOST_FRAMES, MOST_PAGES, Map};
 use std::mem;
 
 // A frame for each page, and for each frame whether it is free.
-#[derive(Drop)]
+#[derive(Debug, PartialEq, Eq, Drop)]
 pub struct PageTable {
     listed: ArrayVec<u8, MOST_PAGES>,
     flags: [bool; MOST_FRAMES],
@@ -24,7 +24,8 @@ fn keeps_law(listed: &ArrayVec<u8, MOST_PAGES>, flags: &[bool; MOST_FRAMES]) -> 
     if listed.is_empty() || flags[0] {
         return false;
     }
-    // A loop, not `all`: its invariant is the whole proof, and `all` needs the pages before from its closure.
+    // A loop, whose invariant is the whole proof; tried by `.iter().enumerate().all(..)`, and the goal `returns-then-not-flags`
+    // stayed open.
     for (page, frame) in listed.iter().enumerate() {
         if *frame == 0 || flags[usize::from(*frame)] || listed[..page].contains(frame) {
             return false;

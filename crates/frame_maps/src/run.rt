@@ -8,7 +8,7 @@ use format::refusal::Refusal;
 use map::interface::{MOST_FRAMES, MOST_PAGES, Map};
 
 // The frames first, first + 1, and so on, `count` of them; none is free.
-#[derive(Clone, Copy)]
+#[derive(Clone, Copy, Debug, PartialEq, Eq)]
 pub struct Run {
     first: u8,
     count: usize,

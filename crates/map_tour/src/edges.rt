@@ -6,7 +6,7 @@ use frame_maps::run::Run;
 use window::Window;
 
 // Listed and free frames.
-#[derive(Clone, Copy)]
+#[derive(Clone, Copy, Debug)]
 struct Given {
     listed: &'static [u8],
     free: &'static [u8],

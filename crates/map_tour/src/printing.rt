@@ -1,11 +1,11 @@
 use format::refusal::Refusal;
 use map::address::{GuestAddress, HostAddress};
-use map::interface::{MOST_FRAMES, Map};
+use map::interface::Map;
 use map::placing::{home, place};
 use std::fmt;
 
 // A refusal as it is printed here, in other words than its own.
-#[derive(Clone, Copy)]
+#[derive(Clone, Copy, Debug)]
 pub struct Refused(pub Refusal);
 
 impl fmt::Display for Refused {
@@ -25,10 +25,8 @@ pub(crate) fn print_map<M: Map>(rt: &HostRuntime, name: &str, map: &M) -> anyhow
         print!(rt; " {}", map.frame_of(page))?;
     }
     print!(rt; ", free")?;
-    for frame in 0..MOST_FRAMES {
-        if map.is_free(frame as u8) {
-            print!(rt; " {frame}")?;
-        }
+    for frame in (0..=u8::MAX).filter(|frame| map.is_free(*frame)) {
+        print!(rt; " {frame}")?;
     }
     println!(rt; "")?;
     Ok(())

@@ -13,27 +13,35 @@ const GUEST_SIZE: usize = 8192;
 
 const HOST_SIZE: usize = 16384;
 
-const IDA: u8 = 0x04;
-
 // The addresses that are taken up: a direct area over both pages, a TIC to a CCW on the other page whose
 // list lies on both, an invalid code, an address inside a CCW, and the guest's end.
 const TAKEN_UP: [u32; 5] = [0x0000, 0x0008, 0x0010, 0x0004, 0x2000];
 
-fn ccw_bytes(code: u8, flags: u8, count: u16, address: u32) -> [u8; 8] {
-    let flags = Flags::from(flags);
-    let ccw = Ccw {
-        code,
-        flags,
-        count,
-        address,
-    };
-    ccw.encode()
-}
-
+// A CCW at 0000 for the area over both pages, a TIC at 0008, and at 1010 a CCW with IDA whose list starts at 0FFC.
 fn write_program(guest: &mut [u8]) {
-    put_at(guest, 0x0000, &ccw_bytes(0x01, 0x00, 16, 0x0FF8));
-    put_at(guest, 0x0008, &ccw_bytes(0x08, 0x00, 0, 0x1010));
-    put_at(guest, 0x1010, &ccw_bytes(0x02, IDA, 3000, 0x0FFC));
+    let direct = Ccw {
+        code: 0x01,
+        flags: Flags::default(),
+        count: 16,
+        address: 0x0FF8,
+    };
+    let transfer = Ccw {
+        code: 0x08,
+        address: 0x1010,
+        ..Ccw::default()
+    };
+    let indirect = Ccw {
+        code: 0x02,
+        flags: Flags {
+            ida: true,
+            ..Flags::default()
+        },
+        count: 3000,
+        address: 0x0FFC,
+    };
+    put_at(guest, 0x0000, &direct.encode());
+    put_at(guest, 0x0008, &transfer.encode());
+    put_at(guest, 0x1010, &indirect.encode());
     put_at(
         guest,
         0x0FFC,

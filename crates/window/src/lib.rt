@@ -10,7 +10,7 @@ use format::refusal::Refusal;
 use map::interface::Map;
 
 // Which pages of the map below a window shows.
-#[derive(Clone, Copy)]
+#[derive(Clone, Copy, Debug, PartialEq, Eq)]
 struct Span {
     first: usize,
     count: usize,
@@ -29,16 +29,12 @@ impl Span {
         requires { self.first + self.count < 2 ^ 64 }
         ensures { MatchOption result (self.count ≤ page) (λ at. (page < self.count) × (at ≡ self.first + page)) }
     {
-        if page < self.count {
-            Some(self.first + page)
-        } else {
-            None
-        }
+        (page < self.count).then(|| self.first + page)
     }
 }
 
 // Some pages of another map, the map below, as pages from 0 on, with its free frames.
-#[derive(Drop)]
+#[derive(Debug, PartialEq, Eq, Drop)]
 pub struct Window<M: Map> {
     below: M,
     span: Span,
@@ -46,7 +42,7 @@ pub struct Window<M: Map> {
 }
 
 // A window that was not made, and the map that it was to show.
-#[derive(Drop)]
+#[derive(Debug, PartialEq, Eq, Drop)]
 pub struct WindowRefused<M> {
     pub refusal: Refusal,
     pub below: M,
@@ -83,10 +79,8 @@ impl<M: Map> Window<M> {
         ensures shows { self.new.span ≡ self.old.span }
         ensures lawful { Lawful (shown self.new.span (M.frames self.new.below)) (M.free self.new.below) }
     {
-        match self.span.page_below(page) {
-            Some(at) => self.below.put(at, frame),
-            None => Err(Refusal::FrameTaken),
-        }
+        let at = self.span.page_below(page).ok_or(Refusal::FrameTaken)?;
+        self.below.put(at, frame)
     }
 
     // Takes the window off the map below.
@@ -110,10 +104,9 @@ impl<M: Map> Map for Window<M> {
     }
 
     fn frame_of(&self, page: usize) -> u8 {
-        match self.span.page_below(page) {
-            Some(at) => self.below.frame_of(at),
-            None => 0,
-        }
+        self.span
+            .page_below(page)
+            .map_or(0, |at| self.below.frame_of(at))
     }
 
     fn is_free(&self, frame: u8) -> bool {

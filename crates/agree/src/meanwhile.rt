@@ -7,6 +7,9 @@ use device::interface::Device;
 use map::interface::Map;
 use walk::own_bytes::OwnBytes;
 
+// `device` is named by the clauses alone, and so is the `map` of `may_store`: they say of which kind of device and of which map
+// a clause speaks.
+
 // Whether a guest may store these bytes while its program runs: none of them is the program's own.
 pub fn may_store<M: Map, D: Device>(
     map: &M,

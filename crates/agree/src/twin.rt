@@ -26,6 +26,7 @@ pub struct Progresses {
     pub direct: Progress,
 }
 
+// `map` and `device` are named by the clauses alone: they say of which map and of which kind of device a clause speaks.
 impl Twin {
     // Both at their start, for this map and a device of this kind: the host's channel at cell 0, the direct one at the
     // program's start address.

@@ -1,5 +1,5 @@
 use super::{BOTH, CONTROL, ONE, READ, READ_BACKWARD, WRITE, ZERO};
-use crate::row::{At, Entry, Expected, Row, Section};
+use crate::row::{Accepted, At, Entry, Refused, Row, Section};
 use rules::pieces::Piece;
 
 pub const RULE_10: Section = Section {
@@ -12,14 +12,10 @@ pub const RULE_10: Section = Section {
             length: 0x2000,
             contents: &[Entry::Ccw(0x100, WRITE, 0x00, 1, 0x1FFF)],
             place: At::First(0x100),
-            expected: Expected::Accepted(
-                0x100,
-                WRITE,
-                &[Piece {
+            expected: Ok(Accepted { ccw: 0x100, code: WRITE, area: &[Piece {
                     first: 0x1FFF,
                     size: 1,
-                }],
-            ),
+                }] }),
         },
         Row {
             name: "from 1FFF, 2 bytes",
@@ -27,7 +23,7 @@ pub const RULE_10: Section = Section {
             length: 0x2000,
             contents: &[Entry::Ccw(0x100, WRITE, 0x00, 2, 0x1FFF)],
             place: At::First(0x100),
-            expected: Expected::Refused(10, 0x2000, 0x100),
+            expected: Err(Refused { rule: 10, names: 0x2000, counts_from: 0x100 }),
         },
         Row {
             name: "from 2000, 1 byte",
@@ -35,7 +31,7 @@ pub const RULE_10: Section = Section {
             length: 0x2000,
             contents: &[Entry::Ccw(0x100, WRITE, 0x00, 1, 0x2000)],
             place: At::First(0x100),
-            expected: Expected::Refused(10, 0x2000, 0x100),
+            expected: Err(Refused { rule: 10, names: 0x2000, counts_from: 0x100 }),
         },
         Row {
             name: "from 2001, 1 byte",
@@ -43,7 +39,7 @@ pub const RULE_10: Section = Section {
             length: 0x2000,
             contents: &[Entry::Ccw(0x100, WRITE, 0x00, 1, 0x2001)],
             place: At::First(0x100),
-            expected: Expected::Refused(10, 0x2001, 0x100),
+            expected: Err(Refused { rule: 10, names: 0x2001, counts_from: 0x100 }),
         },
         Row {
             name: "from 7FE, 4 bytes",
@@ -51,10 +47,7 @@ pub const RULE_10: Section = Section {
             length: 0x2000,
             contents: &[Entry::Ccw(0x100, WRITE, 0x00, 4, 0x7FE)],
             place: At::First(0x100),
-            expected: Expected::Accepted(
-                0x100,
-                WRITE,
-                &[
+            expected: Ok(Accepted { ccw: 0x100, code: WRITE, area: &[
                     Piece {
                         first: 0x7FE,
                         size: 2,
@@ -63,8 +56,7 @@ pub const RULE_10: Section = Section {
                         first: 0x800,
                         size: 2,
                     },
-                ],
-            ),
+                ] }),
         },
         Row {
             name: "from 1000, 4096 bytes",
@@ -72,10 +64,7 @@ pub const RULE_10: Section = Section {
             length: 0x2000,
             contents: &[Entry::Ccw(0x100, READ, 0x00, 4096, 0x1000)],
             place: At::First(0x100),
-            expected: Expected::Accepted(
-                0x100,
-                READ,
-                &[
+            expected: Ok(Accepted { ccw: 0x100, code: READ, area: &[
                     Piece {
                         first: 0x1000,
                         size: 2048,
@@ -84,8 +73,7 @@ pub const RULE_10: Section = Section {
                         first: 0x1800,
                         size: 2048,
                     },
-                ],
-            ),
+                ] }),
         },
         Row {
             name: "from 1000, 4097 bytes",
@@ -93,7 +81,7 @@ pub const RULE_10: Section = Section {
             length: 0x2000,
             contents: &[Entry::Ccw(0x100, READ, 0x00, 4097, 0x1000)],
             place: At::First(0x100),
-            expected: Expected::Refused(10, 0x2000, 0x100),
+            expected: Err(Refused { rule: 10, names: 0x2000, counts_from: 0x100 }),
         },
         Row {
             name: "from 1FFF, 2 bytes, SKIP",
@@ -101,7 +89,7 @@ pub const RULE_10: Section = Section {
             length: 0x2000,
             contents: &[Entry::Ccw(0x100, READ, 0x10, 2, 0x1FFF)],
             place: At::First(0x100),
-            expected: Expected::Refused(10, 0x2000, 0x100),
+            expected: Err(Refused { rule: 10, names: 0x2000, counts_from: 0x100 }),
         },
         Row {
             name: "from 1FFF, 2 bytes, a control command",
@@ -109,7 +97,7 @@ pub const RULE_10: Section = Section {
             length: 0x2000,
             contents: &[Entry::Ccw(0x100, CONTROL, 0x00, 2, 0x1FFF)],
             place: At::First(0x100),
-            expected: Expected::Refused(10, 0x2000, 0x100),
+            expected: Err(Refused { rule: 10, names: 0x2000, counts_from: 0x100 }),
         },
         Row {
             name: "TIC to a CCW from 1FFF, 2 bytes",
@@ -120,7 +108,7 @@ pub const RULE_10: Section = Section {
                 Entry::Tic(0x108, 0x100),
             ],
             place: At::Later(0x108),
-            expected: Expected::Refused(10, 0x2000, 0x100),
+            expected: Err(Refused { rule: 10, names: 0x2000, counts_from: 0x100 }),
         },
         Row {
             name: "from the highest address",
@@ -128,7 +116,7 @@ pub const RULE_10: Section = Section {
             length: 0x2000,
             contents: &[Entry::Ccw(0x100, WRITE, 0x00, 65535, 0xFFFFFF)],
             place: At::First(0x100),
-            expected: Expected::Refused(10, 0xFFFFFF, 0x100),
+            expected: Err(Refused { rule: 10, names: 0xFFFFFF, counts_from: 0x100 }),
         },
         Row {
             name: "from the highest address",
@@ -136,7 +124,7 @@ pub const RULE_10: Section = Section {
             length: 0x2000,
             contents: &[Entry::Ccw(0x100, WRITE, 0x00, 65535, 0xFFFFFFFF)],
             place: At::First(0x100),
-            expected: Expected::Refused(10, 0xFFFFFFFF, 0x100),
+            expected: Err(Refused { rule: 10, names: 0xFFFFFFFF, counts_from: 0x100 }),
         },
         Row {
             name: "backward from 1FFF, 1 byte",
@@ -144,14 +132,10 @@ pub const RULE_10: Section = Section {
             length: 0x2000,
             contents: &[Entry::Ccw(0x100, READ_BACKWARD, 0x00, 1, 0x1FFF)],
             place: At::First(0x100),
-            expected: Expected::Accepted(
-                0x100,
-                READ_BACKWARD,
-                &[Piece {
+            expected: Ok(Accepted { ccw: 0x100, code: READ_BACKWARD, area: &[Piece {
                     first: 0x1FFF,
                     size: 1,
-                }],
-            ),
+                }] }),
         },
         Row {
             name: "backward from 2000, 1 byte",
@@ -159,7 +143,7 @@ pub const RULE_10: Section = Section {
             length: 0x2000,
             contents: &[Entry::Ccw(0x100, READ_BACKWARD, 0x00, 1, 0x2000)],
             place: At::First(0x100),
-            expected: Expected::Refused(10, 0x2000, 0x100),
+            expected: Err(Refused { rule: 10, names: 0x2000, counts_from: 0x100 }),
         },
         Row {
             name: "backward from 2001, 2 bytes",
@@ -167,7 +151,7 @@ pub const RULE_10: Section = Section {
             length: 0x2000,
             contents: &[Entry::Ccw(0x100, READ_BACKWARD, 0x00, 2, 0x2001)],
             place: At::First(0x100),
-            expected: Expected::Refused(10, 0x2001, 0x100),
+            expected: Err(Refused { rule: 10, names: 0x2001, counts_from: 0x100 }),
         },
         Row {
             name: "backward from 1, 2 bytes",
@@ -175,14 +159,10 @@ pub const RULE_10: Section = Section {
             length: 0x2000,
             contents: &[Entry::Ccw(0x100, READ_BACKWARD, 0x00, 2, 0x01)],
             place: At::First(0x100),
-            expected: Expected::Accepted(
-                0x100,
-                READ_BACKWARD,
-                &[Piece {
+            expected: Ok(Accepted { ccw: 0x100, code: READ_BACKWARD, area: &[Piece {
                     first: 0x01,
                     size: 2,
-                }],
-            ),
+                }] }),
         },
         Row {
             name: "backward from 1, 3 bytes",
@@ -190,7 +170,7 @@ pub const RULE_10: Section = Section {
             length: 0x2000,
             contents: &[Entry::Ccw(0x100, READ_BACKWARD, 0x00, 3, 0x01)],
             place: At::First(0x100),
-            expected: Expected::Refused(10, 0xFFFFFFFF, 0x100),
+            expected: Err(Refused { rule: 10, names: 0xFFFFFFFF, counts_from: 0x100 }),
         },
         Row {
             name: "backward from 801, 4 bytes",
@@ -198,10 +178,7 @@ pub const RULE_10: Section = Section {
             length: 0x2000,
             contents: &[Entry::Ccw(0x100, READ_BACKWARD, 0x00, 4, 0x801)],
             place: At::First(0x100),
-            expected: Expected::Accepted(
-                0x100,
-                READ_BACKWARD,
-                &[
+            expected: Ok(Accepted { ccw: 0x100, code: READ_BACKWARD, area: &[
                     Piece {
                         first: 0x801,
                         size: 2,
@@ -210,8 +187,7 @@ pub const RULE_10: Section = Section {
                         first: 0x7FF,
                         size: 2,
                     },
-                ],
-            ),
+                ] }),
         },
         Row {
             name: "backward in force, from 1, 2 bytes",
@@ -219,14 +195,10 @@ pub const RULE_10: Section = Section {
             length: 0x2000,
             contents: &[Entry::Ccw(0x100, READ, 0x00, 2, 0x01)],
             place: At::InForce(0x100, READ_BACKWARD),
-            expected: Expected::Accepted(
-                0x100,
-                READ_BACKWARD,
-                &[Piece {
+            expected: Ok(Accepted { ccw: 0x100, code: READ_BACKWARD, area: &[Piece {
                     first: 0x01,
                     size: 2,
-                }],
-            ),
+                }] }),
         },
         Row {
             name: "backward in force, from 1, 3 bytes",
@@ -234,7 +206,7 @@ pub const RULE_10: Section = Section {
             length: 0x2000,
             contents: &[Entry::Ccw(0x100, READ, 0x00, 3, 0x01)],
             place: At::InForce(0x100, READ_BACKWARD),
-            expected: Expected::Refused(10, 0xFFFFFFFF, 0x100),
+            expected: Err(Refused { rule: 10, names: 0xFFFFFFFF, counts_from: 0x100 }),
         },
         Row {
             name: "code 0C with a read in force, from 1, 3 bytes",
@@ -242,14 +214,10 @@ pub const RULE_10: Section = Section {
             length: 0x2000,
             contents: &[Entry::Ccw(0x100, READ_BACKWARD, 0x00, 3, 0x01)],
             place: At::InForce(0x100, READ),
-            expected: Expected::Accepted(
-                0x100,
-                READ,
-                &[Piece {
+            expected: Ok(Accepted { ccw: 0x100, code: READ, area: &[Piece {
                     first: 0x01,
                     size: 3,
-                }],
-            ),
+                }] }),
         },
         Row {
             name: "a list, from 1EFF, 1 byte",
@@ -260,14 +228,10 @@ pub const RULE_10: Section = Section {
                 Entry::Word(0x200, 0x1EFF),
             ],
             place: At::First(0x100),
-            expected: Expected::Accepted(
-                0x100,
-                READ,
-                &[Piece {
+            expected: Ok(Accepted { ccw: 0x100, code: READ, area: &[Piece {
                     first: 0x1EFF,
                     size: 1,
-                }],
-            ),
+                }] }),
         },
         Row {
             name: "a list, from 1EFF, 2 bytes",
@@ -278,7 +242,7 @@ pub const RULE_10: Section = Section {
                 Entry::Word(0x200, 0x1EFF),
             ],
             place: At::First(0x100),
-            expected: Expected::Refused(10, 0x1F00, 0x100),
+            expected: Err(Refused { rule: 10, names: 0x1F00, counts_from: 0x100 }),
         },
         Row {
             name: "a list, from 1F00, 1 byte",
@@ -289,7 +253,7 @@ pub const RULE_10: Section = Section {
                 Entry::Word(0x200, 0x1F00),
             ],
             place: At::First(0x100),
-            expected: Expected::Refused(10, 0x1F00, 0x100),
+            expected: Err(Refused { rule: 10, names: 0x1F00, counts_from: 0x100 }),
         },
         Row {
             name: "a list, second word 1800, up to the end",
@@ -301,10 +265,7 @@ pub const RULE_10: Section = Section {
                 Entry::Word(0x204, 0x1800),
             ],
             place: At::First(0x100),
-            expected: Expected::Accepted(
-                0x100,
-                READ,
-                &[
+            expected: Ok(Accepted { ccw: 0x100, code: READ, area: &[
                     Piece {
                         first: 0x7FE,
                         size: 2,
@@ -313,8 +274,7 @@ pub const RULE_10: Section = Section {
                         first: 0x1800,
                         size: 2,
                     },
-                ],
-            ),
+                ] }),
         },
         Row {
             name: "a list, second word 1800, storage 1 byte shorter",
@@ -326,7 +286,7 @@ pub const RULE_10: Section = Section {
                 Entry::Word(0x204, 0x1800),
             ],
             place: At::First(0x100),
-            expected: Expected::Refused(10, 0x1801, 0x100),
+            expected: Err(Refused { rule: 10, names: 0x1801, counts_from: 0x100 }),
         },
         Row {
             name: "a list, the highest word",
@@ -337,7 +297,7 @@ pub const RULE_10: Section = Section {
                 Entry::Word(0x200, 0xFFFFFFFF),
             ],
             place: At::First(0x100),
-            expected: Expected::Refused(10, 0xFFFFFFFF, 0x100),
+            expected: Err(Refused { rule: 10, names: 0xFFFFFFFF, counts_from: 0x100 }),
         },
         Row {
             name: "backward, a list, from 1EFF, 1 byte",
@@ -348,14 +308,10 @@ pub const RULE_10: Section = Section {
                 Entry::Word(0x200, 0x1EFF),
             ],
             place: At::First(0x100),
-            expected: Expected::Accepted(
-                0x100,
-                READ_BACKWARD,
-                &[Piece {
+            expected: Ok(Accepted { ccw: 0x100, code: READ_BACKWARD, area: &[Piece {
                     first: 0x1EFF,
                     size: 1,
-                }],
-            ),
+                }] }),
         },
         Row {
             name: "backward, a list, from 1F00, 1 byte",
@@ -366,7 +322,7 @@ pub const RULE_10: Section = Section {
                 Entry::Word(0x200, 0x1F00),
             ],
             place: At::First(0x100),
-            expected: Expected::Refused(10, 0x1F00, 0x100),
+            expected: Err(Refused { rule: 10, names: 0x1F00, counts_from: 0x100 }),
         },
         Row {
             name: "backward, a list, words 000 and 17FF",
@@ -378,10 +334,7 @@ pub const RULE_10: Section = Section {
                 Entry::Word(0x204, 0x17FF),
             ],
             place: At::First(0x100),
-            expected: Expected::Accepted(
-                0x100,
-                READ_BACKWARD,
-                &[
+            expected: Ok(Accepted { ccw: 0x100, code: READ_BACKWARD, area: &[
                     Piece {
                         first: 0x00,
                         size: 1,
@@ -390,8 +343,7 @@ pub const RULE_10: Section = Section {
                         first: 0x17FF,
                         size: 1,
                     },
-                ],
-            ),
+                ] }),
         },
         Row {
             name: "backward, a list, words 000 and 27FF",
@@ -403,7 +355,7 @@ pub const RULE_10: Section = Section {
                 Entry::Word(0x204, 0x27FF),
             ],
             place: At::First(0x100),
-            expected: Expected::Refused(10, 0x27FF, 0x100),
+            expected: Err(Refused { rule: 10, names: 0x27FF, counts_from: 0x100 }),
         },
     ],
 };

@@ -6,4 +6,7 @@ returns-clause-agree g c = halts_agree _ _ (g.met.M.Map.lawful _) _
 
 pub returns-clause-together : goal.returns-clause-together
 returns-clause-together g c =
-    λ host direct. halted_together _ _ (g.met.M.Map.lawful _) _ _ _ _ _ (c.halt.ensures.world host) (c.halt-2.ensures.world direct)
+    λ host direct.
+    let on_host = c.halt.ensures.world host in
+    let on_direct = c.halt-2.ensures.world direct in
+    halted_together _ _ (g.met.M.Map.lawful _) _ _ _ _ _ (cc) (cc)

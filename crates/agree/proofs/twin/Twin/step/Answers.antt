@@ -13,6 +13,4 @@ returns-clause-together g c =
     stepped_together _ _ (g.met.M.Map.lawful _) _ _ _
     (on c.args.host.now (state c.args.host_device.now) c.args.self.now.host.run)
     (on c.args.direct.now (state c.args.direct_device.now) c.args.self.now.direct.run)
-    (on c.step.new.storage (state c.step.new.device) c.step.new.self.run)
-    (on c.step-2.new.storage (state c.step-2.new.device) c.step-2.new.self.run)
-    formats.0 formats.1 c.step.ensures.world c.step-2.ensures.world
+    _ _ formats.0 formats.1 (cc) (cc)

@@ -20,6 +20,7 @@ fn storage_with(count: u16) -> [u8; 1024]
 }
 
 // Reads `count` bytes of a waiting line of five, by a CCW at 000100, and answers the status word.
+#[tactic(auto, using(crate::proofs::Computed::worked))]
 pub fn read_line_of_five(count: u16) -> Option<StatusWord>
     ensures is { result ≡ read_answer count }
     ensures cases { WorkedCases }

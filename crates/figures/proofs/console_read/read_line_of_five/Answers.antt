@@ -6,8 +6,8 @@ use Rattle.console.specs.Meaning.{meaning}
 use Rattle.figures.specs.Cases.{read_program}
 use Rattle.figures.proofs.console_read.read_line_of_five.Goals as goal
 
-pub returns : goal.returns
-returns c =
+pub returns-clause-is : goal.returns-clause-is
+returns-clause-is c =
     let st = read_program c.args.count in
     let p = c.start-program.result in
     let ran = ap (λ (r : ℕ × World console_machine). word_of r.1.run) c.advance.ensures.world in

@@ -1,17 +1,8 @@
 use Rattle.std.proofs.Common.{ℕ, ap}
 use Rattle.channel.specs.Steps.{World}
 use Rattle.agree.specs.Correspondence.{world}
-use Rattle.agree.proofs.Whole.{advances_agree, never_checked, all_steps_keep, advanced_together}
+use Rattle.agree.proofs.Whole.{advanced_together}
 use Rattle.agree.proofs.twin.Twin.advance.Goals as goal
-
-pub returns-clause-agree : goal.returns-clause-agree
-returns-clause-agree g c = advances_agree _ _ (g.met.M.Map.lawful _) _
-
-pub returns-clause-unchecked : goal.returns-clause-unchecked
-returns-clause-unchecked g c = never_checked _ _ (g.met.M.Map.lawful _) _
-
-pub returns-clause-keep : goal.returns-clause-keep
-returns-clause-keep g c = all_steps_keep _ _ (g.met.M.Map.lawful _) _
 
 pub returns-clause-together : goal.returns-clause-together
 returns-clause-together g c =

@@ -1,10 +1,8 @@
 -- The words of a frame lead home.
-use Rattle.std.proofs.Common.{◌≡◌, ℕ, zero, suc, ◌+◌, ◌-◌, ◌*◌, ◌<◌, ◌≤◌, Bool, List, [], ◌∷◌, ◌++◌, map, length, get_or, replicate, IfOk, Some, None, Ok, Err, Option, Result, sym, refl, ap, ◌∙◌, subst, append_assoc, arith, length-append}
+use Rattle.std.proofs.Common.{◌≡◌, ℕ, zero, suc, ◌+◌, ◌-◌, ◌*◌, ◌<◌, ◌≤◌, Bool, List, [], ◌∷◌, ◌++◌, map, length, get_or, replicate, IfOk, None, Ok, sym, refl, ap, ◌∙◌, append_assoc, arith, length-append}
 use Rattle.std.proofs.Math.ListN.{length-map}
 use Rattle.std.proofs.lemmas.List.{get_or-append_right, get_or-map}
 use Rattle.format.specs.Bytes.{reader, word_at, word_bytes}
-use Rattle.rules.specs.declared.place.Broken.{Broken}
-use Rattle.rules.proofs.AreaSteps.{bind_ok}
 use Rattle.walk.specs.OwnBytes.{extents_of, first_overwriting}
 use Rattle.walk.specs.Walks.{Trail}
 use Rattle.map.specs.Law.{Lawful}
@@ -13,7 +11,7 @@ use Rattle.map.specs.Views.{guest_bytes}
 use Rattle.map.proofs.Placed.{never_shared}
 use Rattle.translate.specs.Frames.{cells_part, filled, words_of, words_bytes, frame_of}
 use Rattle.translate.specs.Theorems.{LeadsHome, word_of, word_read}
-use Rattle.translate.specs.Translations.{Keeping, Outcome, walked, unless_overwriting, accepted, outcome_of, translated}
+use Rattle.translate.specs.Translations.{walked, accepted}
 use Rattle.translate.proofs.Accepted.{Fitting, fitting}
 use Rattle.translate.proofs.Puts.{length-words, length-filled, length-cells_part, below_at}
 

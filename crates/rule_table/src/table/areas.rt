@@ -12,10 +12,14 @@ pub const RULE_10: Section = Section {
             length: 0x2000,
             contents: &[Entry::Ccw(0x100, WRITE, 0x00, 1, 0x1FFF)],
             place: At::First(0x100),
-            expected: Ok(Accepted { ccw: 0x100, code: WRITE, area: &[Piece {
+            expected: Ok(Accepted {
+                ccw: 0x100,
+                code: WRITE,
+                area: &[Piece {
                     first: 0x1FFF,
                     size: 1,
-                }] }),
+                }],
+            }),
         },
         Row {
             name: "from 1FFF, 2 bytes",
@@ -23,7 +27,11 @@ pub const RULE_10: Section = Section {
             length: 0x2000,
             contents: &[Entry::Ccw(0x100, WRITE, 0x00, 2, 0x1FFF)],
             place: At::First(0x100),
-            expected: Err(Refused { rule: 10, names: 0x2000, counts_from: 0x100 }),
+            expected: Err(Refused {
+                rule: 10,
+                names: 0x2000,
+                counts_from: 0x100,
+            }),
         },
         Row {
             name: "from 2000, 1 byte",
@@ -31,7 +39,11 @@ pub const RULE_10: Section = Section {
             length: 0x2000,
             contents: &[Entry::Ccw(0x100, WRITE, 0x00, 1, 0x2000)],
             place: At::First(0x100),
-            expected: Err(Refused { rule: 10, names: 0x2000, counts_from: 0x100 }),
+            expected: Err(Refused {
+                rule: 10,
+                names: 0x2000,
+                counts_from: 0x100,
+            }),
         },
         Row {
             name: "from 2001, 1 byte",
@@ -39,7 +51,11 @@ pub const RULE_10: Section = Section {
             length: 0x2000,
             contents: &[Entry::Ccw(0x100, WRITE, 0x00, 1, 0x2001)],
             place: At::First(0x100),
-            expected: Err(Refused { rule: 10, names: 0x2001, counts_from: 0x100 }),
+            expected: Err(Refused {
+                rule: 10,
+                names: 0x2001,
+                counts_from: 0x100,
+            }),
         },
         Row {
             name: "from 7FE, 4 bytes",
@@ -47,7 +63,10 @@ pub const RULE_10: Section = Section {
             length: 0x2000,
             contents: &[Entry::Ccw(0x100, WRITE, 0x00, 4, 0x7FE)],
             place: At::First(0x100),
-            expected: Ok(Accepted { ccw: 0x100, code: WRITE, area: &[
+            expected: Ok(Accepted {
+                ccw: 0x100,
+                code: WRITE,
+                area: &[
                     Piece {
                         first: 0x7FE,
                         size: 2,
@@ -56,7 +75,8 @@ pub const RULE_10: Section = Section {
                         first: 0x800,
                         size: 2,
                     },
-                ] }),
+                ],
+            }),
         },
         Row {
             name: "from 1000, 4096 bytes",
@@ -64,7 +84,10 @@ pub const RULE_10: Section = Section {
             length: 0x2000,
             contents: &[Entry::Ccw(0x100, READ, 0x00, 4096, 0x1000)],
             place: At::First(0x100),
-            expected: Ok(Accepted { ccw: 0x100, code: READ, area: &[
+            expected: Ok(Accepted {
+                ccw: 0x100,
+                code: READ,
+                area: &[
                     Piece {
                         first: 0x1000,
                         size: 2048,
@@ -73,7 +96,8 @@ pub const RULE_10: Section = Section {
                         first: 0x1800,
                         size: 2048,
                     },
-                ] }),
+                ],
+            }),
         },
         Row {
             name: "from 1000, 4097 bytes",
@@ -81,7 +105,11 @@ pub const RULE_10: Section = Section {
             length: 0x2000,
             contents: &[Entry::Ccw(0x100, READ, 0x00, 4097, 0x1000)],
             place: At::First(0x100),
-            expected: Err(Refused { rule: 10, names: 0x2000, counts_from: 0x100 }),
+            expected: Err(Refused {
+                rule: 10,
+                names: 0x2000,
+                counts_from: 0x100,
+            }),
         },
         Row {
             name: "from 1FFF, 2 bytes, SKIP",
@@ -89,7 +117,11 @@ pub const RULE_10: Section = Section {
             length: 0x2000,
             contents: &[Entry::Ccw(0x100, READ, 0x10, 2, 0x1FFF)],
             place: At::First(0x100),
-            expected: Err(Refused { rule: 10, names: 0x2000, counts_from: 0x100 }),
+            expected: Err(Refused {
+                rule: 10,
+                names: 0x2000,
+                counts_from: 0x100,
+            }),
         },
         Row {
             name: "from 1FFF, 2 bytes, a control command",
@@ -97,7 +129,11 @@ pub const RULE_10: Section = Section {
             length: 0x2000,
             contents: &[Entry::Ccw(0x100, CONTROL, 0x00, 2, 0x1FFF)],
             place: At::First(0x100),
-            expected: Err(Refused { rule: 10, names: 0x2000, counts_from: 0x100 }),
+            expected: Err(Refused {
+                rule: 10,
+                names: 0x2000,
+                counts_from: 0x100,
+            }),
         },
         Row {
             name: "TIC to a CCW from 1FFF, 2 bytes",
@@ -108,7 +144,11 @@ pub const RULE_10: Section = Section {
                 Entry::Tic(0x108, 0x100),
             ],
             place: At::Later(0x108),
-            expected: Err(Refused { rule: 10, names: 0x2000, counts_from: 0x100 }),
+            expected: Err(Refused {
+                rule: 10,
+                names: 0x2000,
+                counts_from: 0x100,
+            }),
         },
         Row {
             name: "from the highest address",
@@ -116,7 +156,11 @@ pub const RULE_10: Section = Section {
             length: 0x2000,
             contents: &[Entry::Ccw(0x100, WRITE, 0x00, 65535, 0xFFFFFF)],
             place: At::First(0x100),
-            expected: Err(Refused { rule: 10, names: 0xFFFFFF, counts_from: 0x100 }),
+            expected: Err(Refused {
+                rule: 10,
+                names: 0xFFFFFF,
+                counts_from: 0x100,
+            }),
         },
         Row {
             name: "from the highest address",
@@ -124,7 +168,11 @@ pub const RULE_10: Section = Section {
             length: 0x2000,
             contents: &[Entry::Ccw(0x100, WRITE, 0x00, 65535, 0xFFFFFFFF)],
             place: At::First(0x100),
-            expected: Err(Refused { rule: 10, names: 0xFFFFFFFF, counts_from: 0x100 }),
+            expected: Err(Refused {
+                rule: 10,
+                names: 0xFFFFFFFF,
+                counts_from: 0x100,
+            }),
         },
         Row {
             name: "backward from 1FFF, 1 byte",
@@ -132,10 +180,14 @@ pub const RULE_10: Section = Section {
             length: 0x2000,
             contents: &[Entry::Ccw(0x100, READ_BACKWARD, 0x00, 1, 0x1FFF)],
             place: At::First(0x100),
-            expected: Ok(Accepted { ccw: 0x100, code: READ_BACKWARD, area: &[Piece {
+            expected: Ok(Accepted {
+                ccw: 0x100,
+                code: READ_BACKWARD,
+                area: &[Piece {
                     first: 0x1FFF,
                     size: 1,
-                }] }),
+                }],
+            }),
         },
         Row {
             name: "backward from 2000, 1 byte",
@@ -143,7 +195,11 @@ pub const RULE_10: Section = Section {
             length: 0x2000,
             contents: &[Entry::Ccw(0x100, READ_BACKWARD, 0x00, 1, 0x2000)],
             place: At::First(0x100),
-            expected: Err(Refused { rule: 10, names: 0x2000, counts_from: 0x100 }),
+            expected: Err(Refused {
+                rule: 10,
+                names: 0x2000,
+                counts_from: 0x100,
+            }),
         },
         Row {
             name: "backward from 2001, 2 bytes",
@@ -151,7 +207,11 @@ pub const RULE_10: Section = Section {
             length: 0x2000,
             contents: &[Entry::Ccw(0x100, READ_BACKWARD, 0x00, 2, 0x2001)],
             place: At::First(0x100),
-            expected: Err(Refused { rule: 10, names: 0x2001, counts_from: 0x100 }),
+            expected: Err(Refused {
+                rule: 10,
+                names: 0x2001,
+                counts_from: 0x100,
+            }),
         },
         Row {
             name: "backward from 1, 2 bytes",
@@ -159,10 +219,14 @@ pub const RULE_10: Section = Section {
             length: 0x2000,
             contents: &[Entry::Ccw(0x100, READ_BACKWARD, 0x00, 2, 0x01)],
             place: At::First(0x100),
-            expected: Ok(Accepted { ccw: 0x100, code: READ_BACKWARD, area: &[Piece {
+            expected: Ok(Accepted {
+                ccw: 0x100,
+                code: READ_BACKWARD,
+                area: &[Piece {
                     first: 0x01,
                     size: 2,
-                }] }),
+                }],
+            }),
         },
         Row {
             name: "backward from 1, 3 bytes",
@@ -170,7 +234,11 @@ pub const RULE_10: Section = Section {
             length: 0x2000,
             contents: &[Entry::Ccw(0x100, READ_BACKWARD, 0x00, 3, 0x01)],
             place: At::First(0x100),
-            expected: Err(Refused { rule: 10, names: 0xFFFFFFFF, counts_from: 0x100 }),
+            expected: Err(Refused {
+                rule: 10,
+                names: 0xFFFFFFFF,
+                counts_from: 0x100,
+            }),
         },
         Row {
             name: "backward from 801, 4 bytes",
@@ -178,7 +246,10 @@ pub const RULE_10: Section = Section {
             length: 0x2000,
             contents: &[Entry::Ccw(0x100, READ_BACKWARD, 0x00, 4, 0x801)],
             place: At::First(0x100),
-            expected: Ok(Accepted { ccw: 0x100, code: READ_BACKWARD, area: &[
+            expected: Ok(Accepted {
+                ccw: 0x100,
+                code: READ_BACKWARD,
+                area: &[
                     Piece {
                         first: 0x801,
                         size: 2,
@@ -187,7 +258,8 @@ pub const RULE_10: Section = Section {
                         first: 0x7FF,
                         size: 2,
                     },
-                ] }),
+                ],
+            }),
         },
         Row {
             name: "backward in force, from 1, 2 bytes",
@@ -195,10 +267,14 @@ pub const RULE_10: Section = Section {
             length: 0x2000,
             contents: &[Entry::Ccw(0x100, READ, 0x00, 2, 0x01)],
             place: At::InForce(0x100, READ_BACKWARD),
-            expected: Ok(Accepted { ccw: 0x100, code: READ_BACKWARD, area: &[Piece {
+            expected: Ok(Accepted {
+                ccw: 0x100,
+                code: READ_BACKWARD,
+                area: &[Piece {
                     first: 0x01,
                     size: 2,
-                }] }),
+                }],
+            }),
         },
         Row {
             name: "backward in force, from 1, 3 bytes",
@@ -206,7 +282,11 @@ pub const RULE_10: Section = Section {
             length: 0x2000,
             contents: &[Entry::Ccw(0x100, READ, 0x00, 3, 0x01)],
             place: At::InForce(0x100, READ_BACKWARD),
-            expected: Err(Refused { rule: 10, names: 0xFFFFFFFF, counts_from: 0x100 }),
+            expected: Err(Refused {
+                rule: 10,
+                names: 0xFFFFFFFF,
+                counts_from: 0x100,
+            }),
         },
         Row {
             name: "code 0C with a read in force, from 1, 3 bytes",
@@ -214,10 +294,14 @@ pub const RULE_10: Section = Section {
             length: 0x2000,
             contents: &[Entry::Ccw(0x100, READ_BACKWARD, 0x00, 3, 0x01)],
             place: At::InForce(0x100, READ),
-            expected: Ok(Accepted { ccw: 0x100, code: READ, area: &[Piece {
+            expected: Ok(Accepted {
+                ccw: 0x100,
+                code: READ,
+                area: &[Piece {
                     first: 0x01,
                     size: 3,
-                }] }),
+                }],
+            }),
         },
         Row {
             name: "a list, from 1EFF, 1 byte",
@@ -228,10 +312,14 @@ pub const RULE_10: Section = Section {
                 Entry::Word(0x200, 0x1EFF),
             ],
             place: At::First(0x100),
-            expected: Ok(Accepted { ccw: 0x100, code: READ, area: &[Piece {
+            expected: Ok(Accepted {
+                ccw: 0x100,
+                code: READ,
+                area: &[Piece {
                     first: 0x1EFF,
                     size: 1,
-                }] }),
+                }],
+            }),
         },
         Row {
             name: "a list, from 1EFF, 2 bytes",
@@ -242,7 +330,11 @@ pub const RULE_10: Section = Section {
                 Entry::Word(0x200, 0x1EFF),
             ],
             place: At::First(0x100),
-            expected: Err(Refused { rule: 10, names: 0x1F00, counts_from: 0x100 }),
+            expected: Err(Refused {
+                rule: 10,
+                names: 0x1F00,
+                counts_from: 0x100,
+            }),
         },
         Row {
             name: "a list, from 1F00, 1 byte",
@@ -253,7 +345,11 @@ pub const RULE_10: Section = Section {
                 Entry::Word(0x200, 0x1F00),
             ],
             place: At::First(0x100),
-            expected: Err(Refused { rule: 10, names: 0x1F00, counts_from: 0x100 }),
+            expected: Err(Refused {
+                rule: 10,
+                names: 0x1F00,
+                counts_from: 0x100,
+            }),
         },
         Row {
             name: "a list, second word 1800, up to the end",
@@ -265,7 +361,10 @@ pub const RULE_10: Section = Section {
                 Entry::Word(0x204, 0x1800),
             ],
             place: At::First(0x100),
-            expected: Ok(Accepted { ccw: 0x100, code: READ, area: &[
+            expected: Ok(Accepted {
+                ccw: 0x100,
+                code: READ,
+                area: &[
                     Piece {
                         first: 0x7FE,
                         size: 2,
@@ -274,7 +373,8 @@ pub const RULE_10: Section = Section {
                         first: 0x1800,
                         size: 2,
                     },
-                ] }),
+                ],
+            }),
         },
         Row {
             name: "a list, second word 1800, storage 1 byte shorter",
@@ -286,7 +386,11 @@ pub const RULE_10: Section = Section {
                 Entry::Word(0x204, 0x1800),
             ],
             place: At::First(0x100),
-            expected: Err(Refused { rule: 10, names: 0x1801, counts_from: 0x100 }),
+            expected: Err(Refused {
+                rule: 10,
+                names: 0x1801,
+                counts_from: 0x100,
+            }),
         },
         Row {
             name: "a list, the highest word",
@@ -297,7 +401,11 @@ pub const RULE_10: Section = Section {
                 Entry::Word(0x200, 0xFFFFFFFF),
             ],
             place: At::First(0x100),
-            expected: Err(Refused { rule: 10, names: 0xFFFFFFFF, counts_from: 0x100 }),
+            expected: Err(Refused {
+                rule: 10,
+                names: 0xFFFFFFFF,
+                counts_from: 0x100,
+            }),
         },
         Row {
             name: "backward, a list, from 1EFF, 1 byte",
@@ -308,10 +416,14 @@ pub const RULE_10: Section = Section {
                 Entry::Word(0x200, 0x1EFF),
             ],
             place: At::First(0x100),
-            expected: Ok(Accepted { ccw: 0x100, code: READ_BACKWARD, area: &[Piece {
+            expected: Ok(Accepted {
+                ccw: 0x100,
+                code: READ_BACKWARD,
+                area: &[Piece {
                     first: 0x1EFF,
                     size: 1,
-                }] }),
+                }],
+            }),
         },
         Row {
             name: "backward, a list, from 1F00, 1 byte",
@@ -322,7 +434,11 @@ pub const RULE_10: Section = Section {
                 Entry::Word(0x200, 0x1F00),
             ],
             place: At::First(0x100),
-            expected: Err(Refused { rule: 10, names: 0x1F00, counts_from: 0x100 }),
+            expected: Err(Refused {
+                rule: 10,
+                names: 0x1F00,
+                counts_from: 0x100,
+            }),
         },
         Row {
             name: "backward, a list, words 000 and 17FF",
@@ -334,7 +450,10 @@ pub const RULE_10: Section = Section {
                 Entry::Word(0x204, 0x17FF),
             ],
             place: At::First(0x100),
-            expected: Ok(Accepted { ccw: 0x100, code: READ_BACKWARD, area: &[
+            expected: Ok(Accepted {
+                ccw: 0x100,
+                code: READ_BACKWARD,
+                area: &[
                     Piece {
                         first: 0x00,
                         size: 1,
@@ -343,7 +462,8 @@ pub const RULE_10: Section = Section {
                         first: 0x17FF,
                         size: 1,
                     },
-                ] }),
+                ],
+            }),
         },
         Row {
             name: "backward, a list, words 000 and 27FF",
@@ -355,7 +475,11 @@ pub const RULE_10: Section = Section {
                 Entry::Word(0x204, 0x27FF),
             ],
             place: At::First(0x100),
-            expected: Err(Refused { rule: 10, names: 0x27FF, counts_from: 0x100 }),
+            expected: Err(Refused {
+                rule: 10,
+                names: 0x27FF,
+                counts_from: 0x100,
+            }),
         },
     ],
 };

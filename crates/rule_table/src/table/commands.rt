@@ -12,10 +12,14 @@ pub const RULE_4: Section = Section {
             length: 0x2000,
             contents: &[Entry::Ccw(0x100, 0x11, 0x00, 1, 0x200)],
             place: At::First(0x100),
-            expected: Ok(Accepted { ccw: 0x100, code: 0x11, area: &[Piece {
+            expected: Ok(Accepted {
+                ccw: 0x100,
+                code: 0x11,
+                area: &[Piece {
                     first: 0x200,
                     size: 1,
-                }] }),
+                }],
+            }),
         },
         Row {
             name: "code 10",
@@ -23,7 +27,11 @@ pub const RULE_4: Section = Section {
             length: 0x2000,
             contents: &[Entry::Ccw(0x100, 0x10, 0x00, 1, 0x200)],
             place: At::First(0x100),
-            expected: Err(Refused { rule: 4, names: 0x100, counts_from: 0x100 }),
+            expected: Err(Refused {
+                rule: 4,
+                names: 0x100,
+                counts_from: 0x100,
+            }),
         },
         Row {
             name: "code 00",
@@ -31,7 +39,11 @@ pub const RULE_4: Section = Section {
             length: 0x2000,
             contents: &[Entry::Ccw(0x100, 0x00, 0x00, 1, 0x200)],
             place: At::First(0x100),
-            expected: Err(Refused { rule: 4, names: 0x100, counts_from: 0x100 }),
+            expected: Err(Refused {
+                rule: 4,
+                names: 0x100,
+                counts_from: 0x100,
+            }),
         },
         Row {
             name: "code 00, not the first place",
@@ -39,7 +51,11 @@ pub const RULE_4: Section = Section {
             length: 0x2000,
             contents: &[Entry::Ccw(0x100, 0x00, 0x00, 1, 0x200)],
             place: At::Later(0x100),
-            expected: Err(Refused { rule: 4, names: 0x100, counts_from: 0x100 }),
+            expected: Err(Refused {
+                rule: 4,
+                names: 0x100,
+                counts_from: 0x100,
+            }),
         },
         Row {
             name: "code 00 with a write in force",
@@ -47,10 +63,14 @@ pub const RULE_4: Section = Section {
             length: 0x2000,
             contents: &[Entry::Ccw(0x100, 0x00, 0x00, 1, 0x200)],
             place: At::InForce(0x100, WRITE),
-            expected: Ok(Accepted { ccw: 0x100, code: WRITE, area: &[Piece {
+            expected: Ok(Accepted {
+                ccw: 0x100,
+                code: WRITE,
+                area: &[Piece {
                     first: 0x200,
                     size: 1,
-                }] }),
+                }],
+            }),
         },
         Row {
             name: "TIC to a code 00",
@@ -61,7 +81,11 @@ pub const RULE_4: Section = Section {
                 Entry::Tic(0x108, 0x100),
             ],
             place: At::Later(0x108),
-            expected: Err(Refused { rule: 4, names: 0x100, counts_from: 0x100 }),
+            expected: Err(Refused {
+                rule: 4,
+                names: 0x100,
+                counts_from: 0x100,
+            }),
         },
         Row {
             name: "TIC to a code 00 with a write in force",
@@ -72,10 +96,14 @@ pub const RULE_4: Section = Section {
                 Entry::Tic(0x108, 0x100),
             ],
             place: At::InForce(0x108, WRITE),
-            expected: Ok(Accepted { ccw: 0x100, code: WRITE, area: &[Piece {
+            expected: Ok(Accepted {
+                ccw: 0x100,
+                code: WRITE,
+                area: &[Piece {
                     first: 0x200,
                     size: 1,
-                }] }),
+                }],
+            }),
         },
         Row {
             name: "code 18",
@@ -86,10 +114,14 @@ pub const RULE_4: Section = Section {
                 Entry::Ccw(0x108, 0x18, 0x00, 0, 0x100),
             ],
             place: At::Later(0x108),
-            expected: Ok(Accepted { ccw: 0x100, code: READ, area: &[Piece {
+            expected: Ok(Accepted {
+                ccw: 0x100,
+                code: READ,
+                area: &[Piece {
                     first: 0x200,
                     size: 1,
-                }] }),
+                }],
+            }),
         },
         Row {
             name: "code 18",
@@ -100,7 +132,11 @@ pub const RULE_4: Section = Section {
                 Entry::Ccw(0x108, 0x18, 0x00, 0, 0x100),
             ],
             place: At::Later(0x108),
-            expected: Err(Refused { rule: 4, names: 0x108, counts_from: 0x108 }),
+            expected: Err(Refused {
+                rule: 4,
+                names: 0x108,
+                counts_from: 0x108,
+            }),
         },
         Row {
             name: "code 18 with a write in force",
@@ -111,10 +147,14 @@ pub const RULE_4: Section = Section {
                 Entry::Ccw(0x108, 0x18, 0x00, 0, 0x100),
             ],
             place: At::InForce(0x108, WRITE),
-            expected: Ok(Accepted { ccw: 0x100, code: WRITE, area: &[Piece {
+            expected: Ok(Accepted {
+                ccw: 0x100,
+                code: WRITE,
+                area: &[Piece {
                     first: 0x200,
                     size: 1,
-                }] }),
+                }],
+            }),
         },
         Row {
             name: "code 18 with a write in force",
@@ -125,7 +165,11 @@ pub const RULE_4: Section = Section {
                 Entry::Ccw(0x108, 0x18, 0x00, 0, 0x100),
             ],
             place: At::InForce(0x108, WRITE),
-            expected: Err(Refused { rule: 4, names: 0x108, counts_from: 0x108 }),
+            expected: Err(Refused {
+                rule: 4,
+                names: 0x108,
+                counts_from: 0x108,
+            }),
         },
         Row {
             name: "TIC to a code 18",
@@ -137,7 +181,11 @@ pub const RULE_4: Section = Section {
                 Entry::Ccw(0x110, 0x18, 0x00, 0, 0x100),
             ],
             place: At::Later(0x108),
-            expected: Err(Refused { rule: 4, names: 0x110, counts_from: 0x110 }),
+            expected: Err(Refused {
+                rule: 4,
+                names: 0x110,
+                counts_from: 0x110,
+            }),
         },
         Row {
             name: "rule 4 before rule 3: code 18 as the first place",
@@ -148,7 +196,11 @@ pub const RULE_4: Section = Section {
                 Entry::Ccw(0x108, 0x18, 0x00, 0, 0x100),
             ],
             place: At::First(0x108),
-            expected: Err(Refused { rule: 4, names: 0x108, counts_from: 0x108 }),
+            expected: Err(Refused {
+                rule: 4,
+                names: 0x108,
+                counts_from: 0x108,
+            }),
         },
         Row {
             name: "rule 4 before rule 5: code 00 with flag 08",
@@ -156,7 +208,11 @@ pub const RULE_4: Section = Section {
             length: 0x2000,
             contents: &[Entry::Ccw(0x100, 0x00, 0x08, 1, 0x200)],
             place: At::First(0x100),
-            expected: Err(Refused { rule: 4, names: 0x100, counts_from: 0x100 }),
+            expected: Err(Refused {
+                rule: 4,
+                names: 0x100,
+                counts_from: 0x100,
+            }),
         },
     ],
 };
@@ -171,10 +227,14 @@ pub const RULE_5: Section = Section {
             length: 0x2000,
             contents: &[Entry::Ccw(0x100, READ, 0x80, 1, 0x200)],
             place: At::First(0x100),
-            expected: Ok(Accepted { ccw: 0x100, code: READ, area: &[Piece {
+            expected: Ok(Accepted {
+                ccw: 0x100,
+                code: READ,
+                area: &[Piece {
                     first: 0x200,
                     size: 1,
-                }] }),
+                }],
+            }),
         },
         Row {
             name: "flag 40",
@@ -182,10 +242,14 @@ pub const RULE_5: Section = Section {
             length: 0x2000,
             contents: &[Entry::Ccw(0x100, READ, 0x40, 1, 0x200)],
             place: At::First(0x100),
-            expected: Ok(Accepted { ccw: 0x100, code: READ, area: &[Piece {
+            expected: Ok(Accepted {
+                ccw: 0x100,
+                code: READ,
+                area: &[Piece {
                     first: 0x200,
                     size: 1,
-                }] }),
+                }],
+            }),
         },
         Row {
             name: "flag 20",
@@ -193,10 +257,14 @@ pub const RULE_5: Section = Section {
             length: 0x2000,
             contents: &[Entry::Ccw(0x100, READ, 0x20, 1, 0x200)],
             place: At::First(0x100),
-            expected: Ok(Accepted { ccw: 0x100, code: READ, area: &[Piece {
+            expected: Ok(Accepted {
+                ccw: 0x100,
+                code: READ,
+                area: &[Piece {
                     first: 0x200,
                     size: 1,
-                }] }),
+                }],
+            }),
         },
         Row {
             name: "flag 10",
@@ -204,10 +272,14 @@ pub const RULE_5: Section = Section {
             length: 0x2000,
             contents: &[Entry::Ccw(0x100, READ, 0x10, 1, 0x200)],
             place: At::First(0x100),
-            expected: Ok(Accepted { ccw: 0x100, code: READ, area: &[Piece {
+            expected: Ok(Accepted {
+                ccw: 0x100,
+                code: READ,
+                area: &[Piece {
                     first: 0x200,
                     size: 1,
-                }] }),
+                }],
+            }),
         },
         Row {
             name: "flag 08",
@@ -215,7 +287,11 @@ pub const RULE_5: Section = Section {
             length: 0x2000,
             contents: &[Entry::Ccw(0x100, READ, 0x08, 1, 0x200)],
             place: At::First(0x100),
-            expected: Err(Refused { rule: 5, names: 0x100, counts_from: 0x100 }),
+            expected: Err(Refused {
+                rule: 5,
+                names: 0x100,
+                counts_from: 0x100,
+            }),
         },
         Row {
             name: "flag 04",
@@ -226,10 +302,14 @@ pub const RULE_5: Section = Section {
                 Entry::Word(0x200, 0x300),
             ],
             place: At::First(0x100),
-            expected: Ok(Accepted { ccw: 0x100, code: READ, area: &[Piece {
+            expected: Ok(Accepted {
+                ccw: 0x100,
+                code: READ,
+                area: &[Piece {
                     first: 0x300,
                     size: 1,
-                }] }),
+                }],
+            }),
         },
         Row {
             name: "flag 02",
@@ -237,7 +317,11 @@ pub const RULE_5: Section = Section {
             length: 0x2000,
             contents: &[Entry::Ccw(0x100, READ, 0x02, 1, 0x200)],
             place: At::First(0x100),
-            expected: Err(Refused { rule: 5, names: 0x100, counts_from: 0x100 }),
+            expected: Err(Refused {
+                rule: 5,
+                names: 0x100,
+                counts_from: 0x100,
+            }),
         },
         Row {
             name: "flag 01",
@@ -245,7 +329,11 @@ pub const RULE_5: Section = Section {
             length: 0x2000,
             contents: &[Entry::Ccw(0x100, READ, 0x01, 1, 0x200)],
             place: At::First(0x100),
-            expected: Err(Refused { rule: 5, names: 0x100, counts_from: 0x100 }),
+            expected: Err(Refused {
+                rule: 5,
+                names: 0x100,
+                counts_from: 0x100,
+            }),
         },
         Row {
             name: "flags F4, all that are accepted",
@@ -256,10 +344,14 @@ pub const RULE_5: Section = Section {
                 Entry::Word(0x200, 0x300),
             ],
             place: At::First(0x100),
-            expected: Ok(Accepted { ccw: 0x100, code: READ, area: &[Piece {
+            expected: Ok(Accepted {
+                ccw: 0x100,
+                code: READ,
+                area: &[Piece {
                     first: 0x300,
                     size: 1,
-                }] }),
+                }],
+            }),
         },
         Row {
             name: "flags FC",
@@ -270,7 +362,11 @@ pub const RULE_5: Section = Section {
                 Entry::Word(0x200, 0x300),
             ],
             place: At::First(0x100),
-            expected: Err(Refused { rule: 5, names: 0x100, counts_from: 0x100 }),
+            expected: Err(Refused {
+                rule: 5,
+                names: 0x100,
+                counts_from: 0x100,
+            }),
         },
         Row {
             name: "flag 08 with a read in force",
@@ -278,7 +374,11 @@ pub const RULE_5: Section = Section {
             length: 0x2000,
             contents: &[Entry::Ccw(0x100, READ, 0x08, 1, 0x200)],
             place: At::InForce(0x100, READ),
-            expected: Err(Refused { rule: 5, names: 0x100, counts_from: 0x100 }),
+            expected: Err(Refused {
+                rule: 5,
+                names: 0x100,
+                counts_from: 0x100,
+            }),
         },
         Row {
             name: "TIC to a CCW with flag 01",
@@ -289,7 +389,11 @@ pub const RULE_5: Section = Section {
                 Entry::Tic(0x108, 0x100),
             ],
             place: At::Later(0x108),
-            expected: Err(Refused { rule: 5, names: 0x100, counts_from: 0x100 }),
+            expected: Err(Refused {
+                rule: 5,
+                names: 0x100,
+                counts_from: 0x100,
+            }),
         },
         Row {
             name: "code 58, flags FF and count 65535",
@@ -300,10 +404,14 @@ pub const RULE_5: Section = Section {
                 Entry::Ccw(0x108, 0x58, 0xFF, 65535, 0x100),
             ],
             place: At::Later(0x108),
-            expected: Ok(Accepted { ccw: 0x100, code: READ, area: &[Piece {
+            expected: Ok(Accepted {
+                ccw: 0x100,
+                code: READ,
+                area: &[Piece {
                     first: 0x200,
                     size: 1,
-                }] }),
+                }],
+            }),
         },
         Row {
             name: "TIC with flags 00 and count 0",
@@ -314,10 +422,14 @@ pub const RULE_5: Section = Section {
                 Entry::Tic(0x108, 0x100),
             ],
             place: At::Later(0x108),
-            expected: Ok(Accepted { ccw: 0x100, code: READ, area: &[Piece {
+            expected: Ok(Accepted {
+                ccw: 0x100,
+                code: READ,
+                area: &[Piece {
                     first: 0x200,
                     size: 1,
-                }] }),
+                }],
+            }),
         },
         Row {
             name: "TIC with flag 80",
@@ -328,7 +440,11 @@ pub const RULE_5: Section = Section {
                 Entry::Ccw(0x108, TIC, 0x80, 0, 0x100),
             ],
             place: At::Later(0x108),
-            expected: Err(Refused { rule: 5, names: 0x108, counts_from: 0x108 }),
+            expected: Err(Refused {
+                rule: 5,
+                names: 0x108,
+                counts_from: 0x108,
+            }),
         },
         Row {
             name: "TIC with flag 20",
@@ -339,7 +455,11 @@ pub const RULE_5: Section = Section {
                 Entry::Ccw(0x108, TIC, 0x20, 0, 0x100),
             ],
             place: At::Later(0x108),
-            expected: Err(Refused { rule: 5, names: 0x108, counts_from: 0x108 }),
+            expected: Err(Refused {
+                rule: 5,
+                names: 0x108,
+                counts_from: 0x108,
+            }),
         },
         Row {
             name: "TIC with flag 01",
@@ -350,7 +470,11 @@ pub const RULE_5: Section = Section {
                 Entry::Ccw(0x108, TIC, 0x01, 0, 0x100),
             ],
             place: At::Later(0x108),
-            expected: Err(Refused { rule: 5, names: 0x108, counts_from: 0x108 }),
+            expected: Err(Refused {
+                rule: 5,
+                names: 0x108,
+                counts_from: 0x108,
+            }),
         },
         Row {
             name: "TIC with count 1",
@@ -361,7 +485,11 @@ pub const RULE_5: Section = Section {
                 Entry::Ccw(0x108, TIC, 0x00, 1, 0x100),
             ],
             place: At::Later(0x108),
-            expected: Err(Refused { rule: 5, names: 0x108, counts_from: 0x108 }),
+            expected: Err(Refused {
+                rule: 5,
+                names: 0x108,
+                counts_from: 0x108,
+            }),
         },
         Row {
             name: "rule 5 before rule 6: flag 08 and count 0",
@@ -369,7 +497,11 @@ pub const RULE_5: Section = Section {
             length: 0x2000,
             contents: &[Entry::Ccw(0x100, READ, 0x08, 0, 0x200)],
             place: At::First(0x100),
-            expected: Err(Refused { rule: 5, names: 0x100, counts_from: 0x100 }),
+            expected: Err(Refused {
+                rule: 5,
+                names: 0x100,
+                counts_from: 0x100,
+            }),
         },
         Row {
             name: "rule 5 before rule 1: TIC with a flag to 104",
@@ -377,7 +509,11 @@ pub const RULE_5: Section = Section {
             length: 0x2000,
             contents: &[Entry::Ccw(0x108, TIC, 0x20, 0, 0x104)],
             place: At::Later(0x108),
-            expected: Err(Refused { rule: 5, names: 0x108, counts_from: 0x108 }),
+            expected: Err(Refused {
+                rule: 5,
+                names: 0x108,
+                counts_from: 0x108,
+            }),
         },
     ],
 };
@@ -392,10 +528,14 @@ pub const RULE_6: Section = Section {
             length: 0x2000,
             contents: &[Entry::Ccw(0x100, READ, 0x00, 1, 0x200)],
             place: At::First(0x100),
-            expected: Ok(Accepted { ccw: 0x100, code: READ, area: &[Piece {
+            expected: Ok(Accepted {
+                ccw: 0x100,
+                code: READ,
+                area: &[Piece {
                     first: 0x200,
                     size: 1,
-                }] }),
+                }],
+            }),
         },
         Row {
             name: "count 0",
@@ -403,7 +543,11 @@ pub const RULE_6: Section = Section {
             length: 0x2000,
             contents: &[Entry::Ccw(0x100, READ, 0x00, 0, 0x200)],
             place: At::First(0x100),
-            expected: Err(Refused { rule: 6, names: 0x100, counts_from: 0x100 }),
+            expected: Err(Refused {
+                rule: 6,
+                names: 0x100,
+                counts_from: 0x100,
+            }),
         },
         Row {
             name: "count 256",
@@ -411,10 +555,14 @@ pub const RULE_6: Section = Section {
             length: 0x2000,
             contents: &[Entry::Ccw(0x100, READ, 0x00, 256, 0x200)],
             place: At::First(0x100),
-            expected: Ok(Accepted { ccw: 0x100, code: READ, area: &[Piece {
+            expected: Ok(Accepted {
+                ccw: 0x100,
+                code: READ,
+                area: &[Piece {
                     first: 0x200,
                     size: 256,
-                }] }),
+                }],
+            }),
         },
         Row {
             name: "count 0 with a read in force",
@@ -422,7 +570,11 @@ pub const RULE_6: Section = Section {
             length: 0x2000,
             contents: &[Entry::Ccw(0x100, READ, 0x00, 0, 0x200)],
             place: At::InForce(0x100, READ),
-            expected: Err(Refused { rule: 6, names: 0x100, counts_from: 0x100 }),
+            expected: Err(Refused {
+                rule: 6,
+                names: 0x100,
+                counts_from: 0x100,
+            }),
         },
         Row {
             name: "TIC to a CCW with count 0",
@@ -433,7 +585,11 @@ pub const RULE_6: Section = Section {
                 Entry::Tic(0x108, 0x100),
             ],
             place: At::Later(0x108),
-            expected: Err(Refused { rule: 6, names: 0x100, counts_from: 0x100 }),
+            expected: Err(Refused {
+                rule: 6,
+                names: 0x100,
+                counts_from: 0x100,
+            }),
         },
         Row {
             name: "rule 6 before rule 7: count 0 and a list at 202",
@@ -441,7 +597,11 @@ pub const RULE_6: Section = Section {
             length: 0x2000,
             contents: &[Entry::Ccw(0x100, READ, 0x04, 0, 0x202)],
             place: At::First(0x100),
-            expected: Err(Refused { rule: 6, names: 0x100, counts_from: 0x100 }),
+            expected: Err(Refused {
+                rule: 6,
+                names: 0x100,
+                counts_from: 0x100,
+            }),
         },
     ],
 };

@@ -15,10 +15,14 @@ pub const RULE_7: Section = Section {
                 Entry::Word(0x200, 0x300),
             ],
             place: At::First(0x100),
-            expected: Ok(Accepted { ccw: 0x100, code: READ, area: &[Piece {
+            expected: Ok(Accepted {
+                ccw: 0x100,
+                code: READ,
+                area: &[Piece {
                     first: 0x300,
                     size: 1,
-                }] }),
+                }],
+            }),
         },
         Row {
             name: "list at 201",
@@ -29,7 +33,11 @@ pub const RULE_7: Section = Section {
                 Entry::Word(0x201, 0x300),
             ],
             place: At::First(0x100),
-            expected: Err(Refused { rule: 7, names: 0x100, counts_from: 0x100 }),
+            expected: Err(Refused {
+                rule: 7,
+                names: 0x100,
+                counts_from: 0x100,
+            }),
         },
         Row {
             name: "list at 202",
@@ -40,7 +48,11 @@ pub const RULE_7: Section = Section {
                 Entry::Word(0x202, 0x300),
             ],
             place: At::First(0x100),
-            expected: Err(Refused { rule: 7, names: 0x100, counts_from: 0x100 }),
+            expected: Err(Refused {
+                rule: 7,
+                names: 0x100,
+                counts_from: 0x100,
+            }),
         },
         Row {
             name: "list at 203",
@@ -51,7 +63,11 @@ pub const RULE_7: Section = Section {
                 Entry::Word(0x203, 0x300),
             ],
             place: At::First(0x100),
-            expected: Err(Refused { rule: 7, names: 0x100, counts_from: 0x100 }),
+            expected: Err(Refused {
+                rule: 7,
+                names: 0x100,
+                counts_from: 0x100,
+            }),
         },
         Row {
             name: "list at 204",
@@ -62,10 +78,14 @@ pub const RULE_7: Section = Section {
                 Entry::Word(0x204, 0x300),
             ],
             place: At::First(0x100),
-            expected: Ok(Accepted { ccw: 0x100, code: READ, area: &[Piece {
+            expected: Ok(Accepted {
+                ccw: 0x100,
+                code: READ,
+                area: &[Piece {
                     first: 0x300,
                     size: 1,
-                }] }),
+                }],
+            }),
         },
         Row {
             name: "address 202 without a list",
@@ -73,10 +93,14 @@ pub const RULE_7: Section = Section {
             length: 0x2000,
             contents: &[Entry::Ccw(0x100, READ, 0x00, 1, 0x202)],
             place: At::First(0x100),
-            expected: Ok(Accepted { ccw: 0x100, code: READ, area: &[Piece {
+            expected: Ok(Accepted {
+                ccw: 0x100,
+                code: READ,
+                area: &[Piece {
                     first: 0x202,
                     size: 1,
-                }] }),
+                }],
+            }),
         },
         Row {
             name: "TIC to a CCW with a list at 202",
@@ -88,7 +112,11 @@ pub const RULE_7: Section = Section {
                 Entry::Tic(0x108, 0x100),
             ],
             place: At::Later(0x108),
-            expected: Err(Refused { rule: 7, names: 0x100, counts_from: 0x100 }),
+            expected: Err(Refused {
+                rule: 7,
+                names: 0x100,
+                counts_from: 0x100,
+            }),
         },
         Row {
             name: "rule 7 before rule 8: list at 2002, behind the end",
@@ -96,7 +124,11 @@ pub const RULE_7: Section = Section {
             length: 0x2000,
             contents: &[Entry::Ccw(0x100, READ, 0x04, 1, 0x2002)],
             place: At::First(0x100),
-            expected: Err(Refused { rule: 7, names: 0x100, counts_from: 0x100 }),
+            expected: Err(Refused {
+                rule: 7,
+                names: 0x100,
+                counts_from: 0x100,
+            }),
         },
     ],
 };
@@ -114,10 +146,14 @@ pub const RULE_8: Section = Section {
                 Entry::Word(0x1FFC, 0x300),
             ],
             place: At::First(0x100),
-            expected: Ok(Accepted { ccw: 0x100, code: READ, area: &[Piece {
+            expected: Ok(Accepted {
+                ccw: 0x100,
+                code: READ,
+                area: &[Piece {
                     first: 0x300,
                     size: 1,
-                }] }),
+                }],
+            }),
         },
         Row {
             name: "storage 1 byte shorter",
@@ -128,7 +164,11 @@ pub const RULE_8: Section = Section {
                 Entry::Word(0x1FFC, 0x300),
             ],
             place: At::First(0x100),
-            expected: Err(Refused { rule: 8, names: 0x1FFC, counts_from: 0x100 }),
+            expected: Err(Refused {
+                rule: 8,
+                names: 0x1FFC,
+                counts_from: 0x100,
+            }),
         },
         Row {
             name: "list 4 bytes further",
@@ -136,7 +176,11 @@ pub const RULE_8: Section = Section {
             length: 0x2000,
             contents: &[Entry::Ccw(0x100, READ, 0x04, 1, 0x2000)],
             place: At::First(0x100),
-            expected: Err(Refused { rule: 8, names: 0x2000, counts_from: 0x100 }),
+            expected: Err(Refused {
+                rule: 8,
+                names: 0x2000,
+                counts_from: 0x100,
+            }),
         },
         Row {
             name: "second word in the last 4 bytes of storage",
@@ -148,7 +192,10 @@ pub const RULE_8: Section = Section {
                 Entry::Word(0x1FFC, 0x1000),
             ],
             place: At::First(0x100),
-            expected: Ok(Accepted { ccw: 0x100, code: READ, area: &[
+            expected: Ok(Accepted {
+                ccw: 0x100,
+                code: READ,
+                area: &[
                     Piece {
                         first: 0x7FE,
                         size: 2,
@@ -157,7 +204,8 @@ pub const RULE_8: Section = Section {
                         first: 0x1000,
                         size: 2,
                     },
-                ] }),
+                ],
+            }),
         },
         Row {
             name: "second word behind the end",
@@ -168,7 +216,11 @@ pub const RULE_8: Section = Section {
                 Entry::Word(0x1FFC, 0x7FE),
             ],
             place: At::First(0x100),
-            expected: Err(Refused { rule: 8, names: 0x2000, counts_from: 0x100 }),
+            expected: Err(Refused {
+                rule: 8,
+                names: 0x2000,
+                counts_from: 0x100,
+            }),
         },
         Row {
             name: "second word behind the end, and not needed",
@@ -179,10 +231,14 @@ pub const RULE_8: Section = Section {
                 Entry::Word(0x1FFC, 0x7FE),
             ],
             place: At::First(0x100),
-            expected: Ok(Accepted { ccw: 0x100, code: READ, area: &[Piece {
+            expected: Ok(Accepted {
+                ccw: 0x100,
+                code: READ,
+                area: &[Piece {
                     first: 0x7FE,
                     size: 2,
-                }] }),
+                }],
+            }),
         },
         Row {
             name: "TIC to a CCW with a list behind the end",
@@ -193,7 +249,11 @@ pub const RULE_8: Section = Section {
                 Entry::Tic(0x108, 0x100),
             ],
             place: At::Later(0x108),
-            expected: Err(Refused { rule: 8, names: 0x2000, counts_from: 0x100 }),
+            expected: Err(Refused {
+                rule: 8,
+                names: 0x2000,
+                counts_from: 0x100,
+            }),
         },
         Row {
             name: "list at the highest multiple of 4",
@@ -201,7 +261,11 @@ pub const RULE_8: Section = Section {
             length: 0x2000,
             contents: &[Entry::Ccw(0x100, READ, 0x04, 1, 0xFFFFFC)],
             place: At::First(0x100),
-            expected: Err(Refused { rule: 8, names: 0xFFFFFC, counts_from: 0x100 }),
+            expected: Err(Refused {
+                rule: 8,
+                names: 0xFFFFFC,
+                counts_from: 0x100,
+            }),
         },
         Row {
             name: "list at the highest multiple of 4",
@@ -209,7 +273,11 @@ pub const RULE_8: Section = Section {
             length: 0x2000,
             contents: &[Entry::Ccw(0x100, READ, 0x04, 1, 0xFFFFFFFC)],
             place: At::First(0x100),
-            expected: Err(Refused { rule: 8, names: 0xFFFFFFFC, counts_from: 0x100 }),
+            expected: Err(Refused {
+                rule: 8,
+                names: 0xFFFFFFFC,
+                counts_from: 0x100,
+            }),
         },
     ],
 };
@@ -228,7 +296,10 @@ pub const RULE_9: Section = Section {
                 Entry::Word(0x204, 0x1000),
             ],
             place: At::First(0x100),
-            expected: Ok(Accepted { ccw: 0x100, code: READ, area: &[
+            expected: Ok(Accepted {
+                ccw: 0x100,
+                code: READ,
+                area: &[
                     Piece {
                         first: 0x7FE,
                         size: 2,
@@ -237,7 +308,8 @@ pub const RULE_9: Section = Section {
                         first: 0x1000,
                         size: 2,
                     },
-                ] }),
+                ],
+            }),
         },
         Row {
             name: "words 7FE and 1001",
@@ -249,7 +321,11 @@ pub const RULE_9: Section = Section {
                 Entry::Word(0x204, 0x1001),
             ],
             place: At::First(0x100),
-            expected: Err(Refused { rule: 9, names: 0x204, counts_from: 0x100 }),
+            expected: Err(Refused {
+                rule: 9,
+                names: 0x204,
+                counts_from: 0x100,
+            }),
         },
         Row {
             name: "words 7FE and FFF",
@@ -261,7 +337,11 @@ pub const RULE_9: Section = Section {
                 Entry::Word(0x204, 0xFFF),
             ],
             place: At::First(0x100),
-            expected: Err(Refused { rule: 9, names: 0x204, counts_from: 0x100 }),
+            expected: Err(Refused {
+                rule: 9,
+                names: 0x204,
+                counts_from: 0x100,
+            }),
         },
         Row {
             name: "words 7FE and 1001, the second not needed",
@@ -273,10 +353,14 @@ pub const RULE_9: Section = Section {
                 Entry::Word(0x204, 0x1001),
             ],
             place: At::First(0x100),
-            expected: Ok(Accepted { ccw: 0x100, code: READ, area: &[Piece {
+            expected: Ok(Accepted {
+                ccw: 0x100,
+                code: READ,
+                area: &[Piece {
                     first: 0x7FE,
                     size: 2,
-                }] }),
+                }],
+            }),
         },
         Row {
             name: "words 7FE and 000, one block twice",
@@ -288,7 +372,10 @@ pub const RULE_9: Section = Section {
                 Entry::Word(0x204, 0x00),
             ],
             place: At::First(0x100),
-            expected: Ok(Accepted { ccw: 0x100, code: READ, area: &[
+            expected: Ok(Accepted {
+                ccw: 0x100,
+                code: READ,
+                area: &[
                     Piece {
                         first: 0x7FE,
                         size: 2,
@@ -297,7 +384,8 @@ pub const RULE_9: Section = Section {
                         first: 0x00,
                         size: 2,
                     },
-                ] }),
+                ],
+            }),
         },
         Row {
             name: "words 7FE, 1000 and 800",
@@ -310,7 +398,10 @@ pub const RULE_9: Section = Section {
                 Entry::Word(0x208, 0x800),
             ],
             place: At::First(0x100),
-            expected: Ok(Accepted { ccw: 0x100, code: READ, area: &[
+            expected: Ok(Accepted {
+                ccw: 0x100,
+                code: READ,
+                area: &[
                     Piece {
                         first: 0x7FE,
                         size: 2,
@@ -323,7 +414,8 @@ pub const RULE_9: Section = Section {
                         first: 0x800,
                         size: 1,
                     },
-                ] }),
+                ],
+            }),
         },
         Row {
             name: "words 7FE, 1000 and 801",
@@ -336,7 +428,11 @@ pub const RULE_9: Section = Section {
                 Entry::Word(0x208, 0x801),
             ],
             place: At::First(0x100),
-            expected: Err(Refused { rule: 9, names: 0x208, counts_from: 0x100 }),
+            expected: Err(Refused {
+                rule: 9,
+                names: 0x208,
+                counts_from: 0x100,
+            }),
         },
         Row {
             name: "backward, words 1001 and 17FF",
@@ -348,7 +444,10 @@ pub const RULE_9: Section = Section {
                 Entry::Word(0x204, 0x17FF),
             ],
             place: At::First(0x100),
-            expected: Ok(Accepted { ccw: 0x100, code: READ_BACKWARD, area: &[
+            expected: Ok(Accepted {
+                ccw: 0x100,
+                code: READ_BACKWARD,
+                area: &[
                     Piece {
                         first: 0x1001,
                         size: 2,
@@ -357,7 +456,8 @@ pub const RULE_9: Section = Section {
                         first: 0x17FF,
                         size: 2,
                     },
-                ] }),
+                ],
+            }),
         },
         Row {
             name: "backward, words 1001 and 17FE",
@@ -369,7 +469,11 @@ pub const RULE_9: Section = Section {
                 Entry::Word(0x204, 0x17FE),
             ],
             place: At::First(0x100),
-            expected: Err(Refused { rule: 9, names: 0x204, counts_from: 0x100 }),
+            expected: Err(Refused {
+                rule: 9,
+                names: 0x204,
+                counts_from: 0x100,
+            }),
         },
         Row {
             name: "backward, words 1001 and 1800",
@@ -381,7 +485,11 @@ pub const RULE_9: Section = Section {
                 Entry::Word(0x204, 0x1800),
             ],
             place: At::First(0x100),
-            expected: Err(Refused { rule: 9, names: 0x204, counts_from: 0x100 }),
+            expected: Err(Refused {
+                rule: 9,
+                names: 0x204,
+                counts_from: 0x100,
+            }),
         },
         Row {
             name: "backward in force, words 1001 and 17FF",
@@ -393,7 +501,10 @@ pub const RULE_9: Section = Section {
                 Entry::Word(0x204, 0x17FF),
             ],
             place: At::InForce(0x100, READ_BACKWARD),
-            expected: Ok(Accepted { ccw: 0x100, code: READ_BACKWARD, area: &[
+            expected: Ok(Accepted {
+                ccw: 0x100,
+                code: READ_BACKWARD,
+                area: &[
                     Piece {
                         first: 0x1001,
                         size: 2,
@@ -402,7 +513,8 @@ pub const RULE_9: Section = Section {
                         first: 0x17FF,
                         size: 2,
                     },
-                ] }),
+                ],
+            }),
         },
         Row {
             name: "backward in force, words 1001 and 1000",
@@ -414,7 +526,11 @@ pub const RULE_9: Section = Section {
                 Entry::Word(0x204, 0x1000),
             ],
             place: At::InForce(0x100, READ_BACKWARD),
-            expected: Err(Refused { rule: 9, names: 0x204, counts_from: 0x100 }),
+            expected: Err(Refused {
+                rule: 9,
+                names: 0x204,
+                counts_from: 0x100,
+            }),
         },
         Row {
             name: "rule 9 before rule 10: words 7FE and 2001",
@@ -426,7 +542,11 @@ pub const RULE_9: Section = Section {
                 Entry::Word(0x204, 0x2001),
             ],
             place: At::First(0x100),
-            expected: Err(Refused { rule: 9, names: 0x204, counts_from: 0x100 }),
+            expected: Err(Refused {
+                rule: 9,
+                names: 0x204,
+                counts_from: 0x100,
+            }),
         },
         Row {
             name: "the first word before the second: words 27FE and 1001",
@@ -438,7 +558,11 @@ pub const RULE_9: Section = Section {
                 Entry::Word(0x204, 0x1001),
             ],
             place: At::First(0x100),
-            expected: Err(Refused { rule: 10, names: 0x27FE, counts_from: 0x100 }),
+            expected: Err(Refused {
+                rule: 10,
+                names: 0x27FE,
+                counts_from: 0x100,
+            }),
         },
     ],
 };

@@ -1,4 +1,4 @@
-use Rattle.std.proofs.Common.{◌+◌, false, ◌||◌, List, map, length, get_or, sym, ap, ◌∙◌}
+use Rattle.std.proofs.Common.{false, ◌||◌, List, map, length, get_or, sym, ap, ◌∙◌}
 use Rattle.std.proofs.lemmas.List.FromFn.{fill_by_all}
 use Rattle.std.proofs.lemmas.List.{nil_from_length, get_or-replicate, length-replicate}
 use Rattle.rules.specs.declared.place.Taken.{Taken}

@@ -1,4 +1,4 @@
-use Rattle.std.proofs.Common.{◌+◌, ◌*◌, List, map, length, ap, ◌∙◌, subst, arith}
+use Rattle.std.proofs.Common.{◌*◌, List, map, length, ap, ◌∙◌, subst, arith}
 use Rattle.std.proofs.lemmas.List.{nil_from_length}
 use Rattle.format.specs.Laying.{put_at}
 use Rattle.rules.specs.declared.place.Taken.{Taken}

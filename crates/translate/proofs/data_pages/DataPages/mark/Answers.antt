@@ -1,4 +1,4 @@
-use Rattle.std.proofs.Common.{◌+◌, ◌/◌, true, false, ◌||◌, List, length, get_or, sym, ap, ◌∙◌, arith, length-set}
+use Rattle.std.proofs.Common.{◌/◌, true, false, ◌||◌, List, length, get_or, sym, ap, ◌∙◌, arith, length-set}
 use Rattle.std.proofs.lemmas.List.{nil_from_length}
 use Rattle.rules.specs.declared.pieces.Piece.{Piece}
 use Rattle.translate.specs.Translations.{piece_in}

@@ -1,7 +1,9 @@
 -- Where cells, the closing TIC and the words of a program frame stand.
-use Rattle.std.proofs.Common.{◌≡◌, ℕ, zero, suc, ◌+◌, ◌-◌, ◌*◌, ◌<◌, ◌≤◌, List, [], ◌∷◌, ◌++◌, map, length, get_or, replicate, Some, None, Option, sym, refl, ap, ◌∙◌, append_assoc, arith, length-append}
+use Rattle.std.proofs.Common.{◌≡◌, ℕ, zero, suc, ◌+◌, ◌-◌, ◌*◌, ◌<◌, ◌≤◌, List, [], ◌∷◌, ◌++◌, map, length, get_or, replicate, Some, None, Option, sym, refl, ap, ◌∙◌, arith, length-append}
 use Rattle.std.proofs.Math.ListN.{length-map}
 use Rattle.std.proofs.lemmas.List.{get_or_append_left, get_or-append-add, get_or-append_right, get_or_at, get_or-map}
+use Rattle.std.proofs.lemmas.List.Concat.{flat_map-append}
+use Rattle.std.specs.List.{flat_map}
 use Rattle.format.specs.declared.ccw.Ccw.{Ccw}
 use Rattle.format.specs.declared.ccw.Format.TheVariants.{One}
 use Rattle.format.specs.Bytes.{Reader, word_at, word_bytes}
@@ -11,8 +13,8 @@ use Rattle.walk.specs.SoundTrails.{cell, pieces_in}
 use Rattle.walk.specs.Walks.{Trail}
 use Rattle.translate.specs.Frames.{cell_ccw, behind_list, cells_bytes, transfer_to, closing_bytes, first_of, words_of, words_bytes, filled, cells_part, frame_of}
 use Rattle.translate.proofs.Accepted.{length-words_of}
-use Rattle.translate.proofs.Puts.{no_piece, length-filled}
-use Rattle.agree.proofs.Parts.{joined, length-joined, part_at, ccw_stands, word_stands}
+use Rattle.translate.proofs.Puts.{no_piece, length-words, length-filled, length-cells_part}
+use Rattle.agree.proofs.Parts.{length-joined, part_at, ccw_stands, word_stands}
 
 no_ccw : Ccw
 no_ccw = transfer_to 0
@@ -44,18 +46,13 @@ ccw_of (t ∷ ts) list (suc i) h =
     ccw_of ts (behind_list t list) i (omega arith)
     ∙ ap (cell_ccw (cell ts i)) (let e : list + 4 * length t.pieces + 4 * words_before ts i ≡ list + 4 * (length t.pieces + words_before ts i) = omega arith in e)
 
-joined_append : (xs ys : List Ccw) → joined ccw_bytes (xs ++ ys) ≡ joined ccw_bytes xs ++ joined ccw_bytes ys
-unfolding joined
-joined_append [] ys = refl
-joined_append (x ∷ xs) ys = ap (λ l. ccw_bytes x ++ l) (joined_append xs ys) ∙ sym (append_assoc (ccw_bytes x) (joined ccw_bytes xs) (joined ccw_bytes ys))
-
-cells_joined : (ts : List Cell) (list : ℕ) → cells_bytes ts list ≡ joined ccw_bytes (ccws_of ts list)
-unfolding cells_bytes ccws_of joined
+cells_joined : (ts : List Cell) (list : ℕ) → cells_bytes ts list ≡ flat_map ccw_bytes (ccws_of ts list)
+unfolding cells_bytes ccws_of
 cells_joined [] list = refl
 cells_joined (t ∷ ts) list = ap (λ l. ccw_bytes (cell_ccw t list) ++ l) (cells_joined ts (behind_list t list))
 
-closing_joined : (c : Option ℕ) → closing_bytes c ≡ joined ccw_bytes (closing c)
-unfolding closing joined
+closing_joined : (c : Option ℕ) → closing_bytes c ≡ flat_map ccw_bytes (closing c)
+unfolding closing
 closing_joined None = refl
 closing_joined (Some j) = refl
 
@@ -64,8 +61,8 @@ unfolding closing
 closing_short None = omega arith
 closing_short (Some j) = omega arith
 
-words_joined : (ws : List ℕ) → words_bytes ws ≡ joined word_bytes ws
-unfolding words_bytes joined
+words_joined : (ws : List ℕ) → words_bytes ws ≡ flat_map word_bytes ws
+unfolding words_bytes
 words_joined [] = refl
 words_joined (w ∷ ws) = ap (λ l. word_bytes w ++ l) (words_joined ws)
 
@@ -73,9 +70,9 @@ words_joined (w ∷ ws) = ap (λ l. word_bytes w ++ l) (words_joined ws)
 all_ccws : Trail → List Ccw
 all_ccws w = ccws_of w.cells 1024 ++ closing w.closes
 
-part_joined : (w : Trail) → cells_part w ≡ joined ccw_bytes (all_ccws w)
+part_joined : (w : Trail) → cells_part w ≡ flat_map ccw_bytes (all_ccws w)
 unfolding all_ccws
-part_joined w = (λ i. cells_joined w.cells 1024 i ++ closing_joined w.closes i) ∙ sym (joined_append (ccws_of w.cells 1024) (closing w.closes))
+part_joined w = (λ i. cells_joined w.cells 1024 i ++ closing_joined w.closes i) ∙ sym (flat_map-append ccw_bytes (ccws_of w.cells 1024) (closing w.closes))
 
 length-all : (w : Trail) → length (all_ccws w) ≤ length w.cells + 1
 unfolding all_ccws
@@ -117,22 +114,19 @@ module _ (place : ℕ → ℕ) (w : Trail) (few : length w.cells ≤ 64) (short 
   all_words = map place (words_of w.cells)
 
   words_length : (length (words_bytes all_words) ≡ 4 * length all_words) × (length all_words ≡ pieces_in w.cells)
-  words_length = (ap length (words_joined all_words) ∙ length-joined 4 word_bytes four all_words, length-map (words_of w.cells) place ∙ length-words_of w.cells)
-
-  front_length : length (filled 1024 (cells_part w)) ≡ 1024
-  front_length = length-filled 1024 (cells_part w) (omega (arith, cells_length, length-all w))
+  words_length = (length-words all_words, length-map (words_of w.cells) place ∙ length-words_of w.cells)
 
   pub frame_length : length (frame_of place w) ≡ 4096
   frame_length =
       length-append (filled 1024 (cells_part w)) (filled 3072 (words_bytes all_words))
-      ∙ omega (arith, front_length, length-filled 3072 (words_bytes all_words) (omega (arith, words_length)))
+      ∙ omega (arith, length-cells_part w few, length-filled 3072 (words_bytes all_words) (omega (arith, words_length)))
 
   -- a byte of a CCW, and of a word
   ccw_byte : (i k : ℕ) → i < length (all_ccws w) → k < 8 → get_or (frame_of place w) (8 * i + k) 0 ≡ get_or (ccw_bytes (get_or (all_ccws w) i no_ccw)) k 0
   ccw_byte i k h l =
       let n = cells_length in
       let m = length-all w in
-      get_or_append_left (filled 1024 (cells_part w)) (filled 3072 (words_bytes all_words)) 0 (8 * i + k) (omega (arith, front_length))
+      get_or_append_left (filled 1024 (cells_part w)) (filled 3072 (words_bytes all_words)) 0 (8 * i + k) (omega (arith, length-cells_part w few))
       ∙ get_or_append_left (cells_part w) (replicate (1024 - length (cells_part w)) 0) 0 (8 * i + k) (omega arith)
       ∙ ap (λ z. get_or z (8 * i + k) 0) (part_joined w)
       ∙ part_at 8 ccw_bytes eight (all_ccws w) i k no_ccw h l
@@ -141,7 +135,7 @@ module _ (place : ℕ → ℕ) (w : Trail) (few : length w.cells ≤ 64) (short 
   word_byte q k a h l e =
       let n = words_length in
       let s : a - 1024 ≡ 4 * q + k = omega arith in
-      get_or-append_right (filled 1024 (cells_part w)) (filled 3072 (words_bytes all_words)) 1024 a 0 front_length (omega arith)
+      get_or-append_right (filled 1024 (cells_part w)) (filled 3072 (words_bytes all_words)) 1024 a 0 (length-cells_part w few) (omega arith)
       ∙ ap (λ z. get_or (filled 3072 (words_bytes all_words)) z 0) s
       ∙ get_or_append_left (words_bytes all_words) (replicate (3072 - length (words_bytes all_words)) 0) 0 (4 * q + k) (omega (arith, n.0))
       ∙ ap (λ z. get_or z (4 * q + k) 0) (words_joined all_words)

@@ -1,6 +1,8 @@
 -- Parts of one size, one after the other, and how a CCW and a word are read out of them.
-use Rattle.std.proofs.Common.{◌≡◌, ℕ, zero, suc, ◌+◌, ◌*◌, ◌%◌, ◌<◌, List, [], ◌∷◌, ◌++◌, length, get_or, sym, ap, ◌∙◌, mul-zero, mul-suc, arith, length-append}
-use Rattle.std.proofs.lemmas.List.{get_or_append_left, get_or-append-add}
+use Rattle.std.proofs.Common.{◌≡◌, ℕ, ◌+◌, ◌*◌, ◌%◌, ◌<◌, List, [], ◌∷◌, length, get_or, take, sym, ap, ◌∙◌, mul-zero, mul-suc, arith, length-append}
+use Rattle.std.proofs.lemmas.List.{length-take-le}
+use Rattle.std.proofs.lemmas.List.Concat.{get_or-flat_map}
+use Rattle.std.specs.List.{flat_map}
 use Rattle.format.specs.declared.ccw.Ccw.{Ccw}
 use Rattle.format.specs.declared.ccw.Format.TheVariants.{One}
 use Rattle.format.specs.Bytes.{Reader, reader, word_at, word_bytes}
@@ -8,26 +10,16 @@ use Rattle.format.specs.FlagBits.{flags_of}
 use Rattle.format.specs.Layouts.{ccw_at, ccw_bytes}
 use Rattle.format.proofs.ReadBack.{ccw_back, word_back}
 
-unfoldable pub joined : {X : Type 0} → (X → List ℕ) → List X → List ℕ
-joined f [] = []
-joined f (x ∷ xs) = f x ++ joined f xs
-
 module _ {X : Type 0} (n : ℕ) (f : X → List ℕ) (sized : (x : X) → length (f x) ≡ n) where
-  pub length-joined : (xs : List X) → length (joined f xs) ≡ n * length xs
-  unfolding joined
+  pub length-joined : (xs : List X) → length (flat_map f xs) ≡ n * length xs
   length-joined [] = sym (mul-zero n)
-  length-joined (x ∷ xs) = length-append (f x) (joined f xs) ∙ omega (arith, sized x, length-joined xs, mul-suc n (length xs))
+  length-joined (x ∷ xs) = length-append (f x) (flat_map f xs) ∙ omega (arith, sized x, length-joined xs, mul-suc n (length xs))
 
   -- byte k of part i
-  pub part_at : (xs : List X) (i k : ℕ) (d : X) → i < length xs → k < n → get_or (joined f xs) (n * i + k) 0 ≡ get_or (f (get_or xs i d)) k 0
-  unfolding joined
-  part_at [] i k d h l = let z : ⊥ = omega arith in absurd z
-  part_at (x ∷ xs) zero k d h l =
-      let e : n * 0 + k ≡ k = omega (arith, mul-zero n) in
-      ap (λ j. get_or (f x ++ joined f xs) j 0) e ∙ get_or_append_left (f x) (joined f xs) 0 k (omega (arith, sized x))
-  part_at (x ∷ xs) (suc i) k d h l =
-      let e : n * suc i + k ≡ length (f x) + (n * i + k) = omega (arith, sized x, mul-suc n i) in
-      ap (λ j. get_or (f x ++ joined f xs) j 0) e ∙ get_or-append-add (f x) (joined f xs) (n * i + k) 0 ∙ part_at xs i k d (omega arith) l
+  pub part_at : (xs : List X) (i k : ℕ) (d : X) → i < length xs → k < n → get_or (flat_map f xs) (n * i + k) 0 ≡ get_or (f (get_or xs i d)) k 0
+  part_at xs i k d h l =
+      let before : length (flat_map f (take i xs)) ≡ n * i = length-joined (take i xs) ∙ ap (λ j. n * j) (length-take-le i xs (omega arith)) in
+      ap (λ j. get_or (flat_map f xs) (j + k) 0) (sym before) ∙ get_or-flat_map f xs i k d 0 h (omega (arith, sized (get_or xs i d)))
 
 -- the bytes of a part, read where it stands
 abbrev pub Stands : Reader → ℕ → ℕ → List ℕ → Type 0

@@ -103,10 +103,9 @@ module _ (fs : List ℕ) (free : ℕ → Bool) (law : Lawful fs free) where
     stepped_together f f' host direct host' direct' a b p q =
         together_by host direct host' direct' _ _ (p ∙ ap (λ x. stepped m x host) a) (q ∙ ap (λ x. stepped m x direct) b) (λ start w c. step_agrees fs free law start w m host direct c)
 
-    pub advanced_together : (f f' : Format) (k n n' : ℕ) (host direct host' direct' : World m) → f ≡ One → f' ≡ Zero → ◌≡◌ {A = ℕ × World m} (n, host') (advanced m f k host) → ◌≡◌ {A = ℕ × World m} (n', direct') (advanced m f' k direct) → Together m fs free host direct host' direct'
-    advanced_together f f' k n n' host direct host' direct' a b p q =
-        let left : ℕ × World m → World m = λ r. r.1 in
-        together_by host direct host' direct' _ _ (ap left p ∙ ap (λ x. (advanced m x k host).1) a) (ap left q ∙ ap (λ x. (advanced m x k direct).1) b) (λ start w c. (advance_agrees fs free law start w m k host direct c).after)
+    pub advanced_together : (f f' : Format) (k : ℕ) (host direct host' direct' : World m) → f ≡ One → f' ≡ Zero → host' ≡ (advanced m f k host).1 → direct' ≡ (advanced m f' k direct).1 → Together m fs free host direct host' direct'
+    advanced_together f f' k host direct host' direct' a b p q =
+        together_by host direct host' direct' _ _ (p ∙ ap (λ x. (advanced m x k host).1) a) (q ∙ ap (λ x. (advanced m x k direct).1) b) (λ start w c. (advance_agrees fs free law start w m k host direct c).after)
 
     pub halted_together : (host direct host' direct' : World m) → host' ≡ halted m host → direct' ≡ halted m direct → Together m fs free host direct host' direct'
     halted_together host direct host' direct' p q = together_by host direct host' direct' _ _ p q (λ start w c. halt_agrees fs free law start w m host direct c)

@@ -7,7 +7,11 @@ use device::interface::Device;
 use map::interface::Map;
 use walk::own_bytes::OwnBytes;
 
+// `device` is named by the clauses alone, and so is the `map` of `may_store`: they say of which kind of device and of which map
+// a clause speaks.
+
 // Whether a guest may store these bytes while its program runs: none of them is the program's own.
+#[tactic(auto, using(crate::proofs::Staying::stores_agree))]
 pub fn may_store<M: Map, D: Device>(
     map: &M,
     device: &D,
@@ -23,6 +27,7 @@ pub fn may_store<M: Map, D: Device>(
 }
 
 // Whether a page may be moved to a frame while a program runs: the program has no data in it, and the map can put it there.
+#[tactic(auto, using(crate::proofs::Staying::moves_agree))]
 pub fn may_move<M: Map, D: Device>(
     map: &M,
     device: &D,

@@ -26,9 +26,11 @@ pub struct Progresses {
     pub direct: Progress,
 }
 
+// `map` and `device` are named by the clauses alone: they say of which map and of which kind of device a clause speaks.
 impl Twin {
     // Both at their start, for this map and a device of this kind: the host's channel at cell 0, the direct one at the
     // program's start address.
+    #[tactic(auto, using(crate::proofs::Whole::cells_agree, crate::proofs::Whole::starts_agree))]
     pub fn start<M: Map, D: Device>(map: &M, device: &D, address: u32) -> Twin
         ensures is { (result.host.run ≡ started 0) × (result.direct.run ≡ started address) }
         ensures cells { CellsAgree (M.frames map.now) (M.free map.now) }
@@ -42,6 +44,7 @@ impl Twin {
 
     // One CCW on each side. A side's storage and device stay two parameters: a struct that held both `&mut` would need a
     // clause in each contract that it still holds the same references.
+    #[tactic(auto, using(crate::proofs::Whole::one_step_agrees, crate::proofs::Whole::stepped_together))]
     pub fn step<M: Map, D: Device>(
         &mut self,
         map: &M,
@@ -66,6 +69,7 @@ impl Twin {
     }
 
     // Up to `limit` CCWs on each side, or fewer if the program ends.
+    #[tactic(auto, using(crate::proofs::Whole::advances_agree, crate::proofs::Whole::never_checked, crate::proofs::Whole::all_steps_keep))]
     pub fn advance<M: Map, D: Device>(
         &mut self,
         map: &M,
@@ -98,6 +102,7 @@ impl Twin {
     }
 
     // Ends both runs if they have not ended; storage stays.
+    #[tactic(auto, using(crate::proofs::Whole::halts_agree, crate::proofs::Whole::halted_together))]
     pub fn halt<M: Map, D: Device>(&mut self, map: &M, host_device: &mut D, direct_device: &mut D)
         ensures host { (storage : List ℕ) → whole D.machine storage (D.state host_device.new) self.new.host.run
             ≡ halted D.machine (whole D.machine storage (D.state host_device.old) self.old.host.run) }

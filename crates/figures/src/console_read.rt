@@ -19,20 +19,15 @@ fn storage_with(count: u16) -> [u8; 1024]
     storage
 }
 
-fn run_read(count: u16) -> Option<StatusWord>
-    ensures { result ≡ read_answer count }
-{
-    let mut storage = storage_with(count);
-    let mut console = new_console(b"HELLO")?;
-    let mut program = Program::start(Format::Zero, 0x100);
-    let _ = program.advance(&mut storage, &mut console, 1);
-    program.status()
-}
-
 // Reads `count` bytes of a waiting line of five, by a CCW at 000100, and answers the status word.
+#[tactic(auto, using(crate::proofs::Computed::worked))]
 pub fn read_line_of_five(count: u16) -> Option<StatusWord>
     ensures is { result ≡ read_answer count }
     ensures cases { WorkedCases }
 {
-    run_read(count)
+    let mut storage = storage_with(count);
+    let mut console = new_console(b"HELLO")?;
+    let mut program = Program::start(Format::Zero, 0x100);
+    program.advance(&mut storage, &mut console, 1);
+    program.status()
 }

@@ -56,8 +56,7 @@ pub struct Text<'a>(pub &'a [u8]);
 impl<'a> fmt::Display for Text<'a> {
     fn fmt<W: fmt::Write>(&self, f: &mut fmt::Formatter<W>) -> fmt::Result {
         for byte in self.0 {
-            let character = decode(*byte) as char;
-            write!(f, "{character}")?;
+            write!(f, "{}", char::from(decode(*byte)))?;
         }
         Ok(())
     }

@@ -5,7 +5,8 @@ use std::alloc::{AllocError, Global};
 // How many bytes the storage of a job has.
 const STORAGE: usize = 16384;
 
-// What stands in storage, with the address where it stands.
+// What stands in storage, with the address where it stands. `rule_table` has a type of its own for this: another program,
+// whose entries are other ones. A CCW is laid out by hand in both, as a guest would.
 #[derive(Clone, Copy, Debug)]
 pub enum Entry {
     // A CCW of format 0: its code, flags, count and address.

@@ -1,6 +1,8 @@
 use format::refusal::Refusal;
 use std::fmt;
 
+// Names for people: each beside the weight of its bit, the number that stands for it in a byte.
+
 pub const FLAGS: [(u8, &str); 8] = [
     (0x80, "CD"),
     (0x40, "CC"),

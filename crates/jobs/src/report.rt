@@ -61,7 +61,7 @@ pub(crate) fn show_changes(rt: &HostRuntime, before: &[u8], after: &[u8]) -> io:
     let mut start = None;
     for (at, (old, new)) in before.iter().zip(after).enumerate() {
         if *old != *new {
-            start = Some(start.unwrap_or(at));
+            start.get_or_insert(at);
         } else if let Some(first) = start {
             show_range(rt, first, at, before, after)?;
             start = None;

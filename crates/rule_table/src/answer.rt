@@ -1,19 +1,24 @@
-use super::row::Expected;
+use super::row::{Accepted, Refused};
 use rules::pieces::Piece;
 use rules::place::{Broken, Taken};
 use std::fmt;
 
-impl Expected {
-    pub(crate) fn is(&self, got: &Result<Taken, Broken>) -> bool {
-        match (*self, got) {
-            (Expected::Accepted(ccw, code, area), Ok(taken)) => {
-                taken.ccw.address == ccw && taken.code == code && taken.pieces.as_slice() == area
-            }
-            (Expected::Refused(rule, names, counts_from), Err(broken)) => {
-                let refusal = broken.refusal;
-                refusal.number() == rule && refusal.address() == names && broken.ccw == counts_from
-            }
-            _ => false,
+impl<'a> From<&'a Taken> for Accepted<'a> {
+    fn from(taken: &'a Taken) -> Accepted<'a> {
+        Accepted {
+            ccw: taken.ccw.address,
+            code: taken.code,
+            area: taken.pieces.as_slice(),
+        }
+    }
+}
+
+impl<'a> From<&'a Broken> for Refused {
+    fn from(broken: &'a Broken) -> Refused {
+        Refused {
+            rule: broken.refusal.number(),
+            names: broken.refusal.address(),
+            counts_from: broken.ccw,
         }
     }
 }
@@ -31,19 +36,23 @@ impl<'a> fmt::Display for Area<'a> {
     }
 }
 
-impl fmt::Display for Expected {
+impl<'a> fmt::Display for Accepted<'a> {
     fn fmt<W: fmt::Write>(&self, f: &mut fmt::Formatter<W>) -> fmt::Result {
-        match *self {
-            Expected::Accepted(ccw, code, area) => {
-                let area = Area(area);
-                write!(f, "CCW {ccw:08X}, code {code:02X}, area{area}")
-            }
-            Expected::Refused(rule, names, counts_from) => {
-                write!(
-                    f,
-                    "rule {rule} names {names:08X}, counts from {counts_from:08X}"
-                )
-            }
-        }
+        let area = Area(self.area);
+        write!(
+            f,
+            "CCW {:08X}, code {:02X}, area{area}",
+            self.ccw, self.code
+        )
+    }
+}
+
+impl fmt::Display for Refused {
+    fn fmt<W: fmt::Write>(&self, f: &mut fmt::Formatter<W>) -> fmt::Result {
+        write!(
+            f,
+            "rule {} names {:08X}, counts from {:08X}",
+            self.rule, self.names, self.counts_from
+        )
     }
 }

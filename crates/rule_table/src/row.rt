@@ -46,13 +46,21 @@ impl From<At> for Place {
     }
 }
 
-// What taking up the place must answer.
-#[derive(Clone, Copy, Debug)]
-pub enum Expected {
-    // The CCW's address, the code in force with it, and the pieces of its area.
-    Accepted(u32, u8, &'static [Piece]),
-    // The broken rule, the address that it names, and the one that a status word counts from.
-    Refused(u8, u32, u32),
+// A place that keeps the rules: the CCW's address, the code in force with it, and the pieces of its area.
+#[derive(Clone, Copy, Debug, PartialEq, Eq)]
+pub struct Accepted<'a> {
+    pub ccw: u32,
+    pub code: u8,
+    pub area: &'a [Piece],
+}
+
+// One that breaks a rule: its number, the address that it names, and the one that a status word counts from. Numbers, as
+// they are printed, apart from the enum that is checked.
+#[derive(Clone, Copy, Debug, PartialEq, Eq)]
+pub struct Refused {
+    pub rule: u8,
+    pub names: u32,
+    pub counts_from: u32,
 }
 
 // A place in a storage of so many bytes, zeros but for the contents.
@@ -63,7 +71,8 @@ pub struct Row {
     pub length: usize,
     pub contents: &'static [Entry],
     pub place: At,
-    pub expected: Expected,
+    // what taking up the place must answer
+    pub expected: Result<Accepted<'static>, Refused>,
 }
 
 // The rows of one rule.

@@ -1,12 +1,11 @@
 use super::row::{Entry, Row};
+use super::table::TIC;
 use format::ccw::Format;
 use format::laying::put_at;
 use std::alloc::{AllocError, Global};
 
 // A byte of a format 0 CCW that has no meaning, so that any value must do.
 const IGNORED: u8 = 0xFF;
-
-const TIC: u8 = 0x08;
 
 // Laid out by hand, so that the table does not rest on the code that it checks.
 fn ccw_bytes(format: Format, code: u8, flags: u8, count: u16, address: u32) -> [u8; 8] {

@@ -24,7 +24,7 @@ const READ: u8 = 0x02;
 
 const CONTROL: u8 = 0x03;
 
-const TIC: u8 = 0x08;
+pub const TIC: u8 = 0x08;
 
 const READ_BACKWARD: u8 = 0x0C;
 

@@ -1,4 +1,4 @@
-use super::row::{Row, Section};
+use super::row::{Accepted, Refused, Row, Section};
 use super::storage::build;
 use format::ccw::Format;
 use rules::place::Place;
@@ -19,8 +19,13 @@ impl Tally {
         let storage = build(rt.alloc(), format, row)?;
         let taken = take_up(&Plain { storage: &storage }, format, Place::from(row.place));
         self.count(format);
-        print!(rt; "  format {format}  {:<54} {}: ", row.name, row.expected)?;
-        if row.expected.is(&taken) {
+        print!(rt; "  format {format}  {:<54} ", row.name)?;
+        match row.expected {
+            Ok(accepted) => print!(rt; "{accepted}: ")?,
+            Err(refused) => print!(rt; "{refused}: ")?,
+        }
+        let answer = taken.as_ref().map(Accepted::from).map_err(Refused::from);
+        if row.expected == answer {
             println!(rt; "as expected")?;
         } else {
             self.wrong = self.wrong.saturating_add(1);

@@ -1,10 +1,8 @@
 -- The words of a frame lead home.
-use Rattle.std.proofs.Common.{◌≡◌, ℕ, zero, suc, ◌+◌, ◌-◌, ◌*◌, ◌<◌, ◌≤◌, Bool, List, [], ◌∷◌, ◌++◌, map, length, get_or, replicate, IfOk, Some, None, Ok, Err, Option, Result, sym, refl, ap, ◌∙◌, subst, append_assoc, arith, length-append}
+use Rattle.std.proofs.Common.{◌≡◌, ℕ, zero, suc, ◌+◌, ◌-◌, ◌*◌, ◌<◌, ◌≤◌, Bool, List, [], ◌∷◌, ◌++◌, map, length, get_or, replicate, IfOk, None, Ok, sym, refl, ap, ◌∙◌, append_assoc, arith, length-append}
 use Rattle.std.proofs.Math.ListN.{length-map}
 use Rattle.std.proofs.lemmas.List.{get_or-append_right, get_or-map}
 use Rattle.format.specs.Bytes.{reader, word_at, word_bytes}
-use Rattle.rules.specs.declared.place.Broken.{Broken}
-use Rattle.rules.proofs.AreaSteps.{bind_ok}
 use Rattle.walk.specs.OwnBytes.{extents_of, first_overwriting}
 use Rattle.walk.specs.Walks.{Trail}
 use Rattle.map.specs.Law.{Lawful}
@@ -13,7 +11,7 @@ use Rattle.map.specs.Views.{guest_bytes}
 use Rattle.map.proofs.Placed.{never_shared}
 use Rattle.translate.specs.Frames.{cells_part, filled, words_of, words_bytes, frame_of}
 use Rattle.translate.specs.Theorems.{LeadsHome, word_of, word_read}
-use Rattle.translate.specs.Translations.{Keeping, Outcome, walked, unless_overwriting, accepted, outcome_of, translated}
+use Rattle.translate.specs.Translations.{walked, accepted}
 use Rattle.translate.proofs.Accepted.{Fitting, fitting}
 use Rattle.translate.proofs.Puts.{length-words, length-filled, length-cells_part, below_at}
 
@@ -73,20 +71,7 @@ module _ (fs : List ℕ) (free : ℕ → Bool) (law : Lawful fs free) where
         home = λ k h. never_shared fs free law (word_of w k) (word_read (frame_of (place_of fs) w) k) (lies k h);
       }
 
-  not_overwriting : (o : Option ℕ) (v w : Trail) → unless_overwriting o v ≡ Ok w → v ≡ w
-  not_overwriting None v w e = cc
-  not_overwriting (Some a) v w e = let z : ◌≡◌ {A = ℕ} 0 1 = cc in let no : ⊥ = omega arith in absurd no
-
-  -- what a translation leaves of an accepted program
-  pub translation_leads_home : (host : List ℕ) (start : ℕ) (frame : List ℕ) (kept : Keeping) (o : Outcome) → o ≡ translated fs host start frame kept → IfOk (accepted (guest_bytes fs host) start) (LeadsHome fs o.frame)
-  translation_leads_home host start frame kept o = go (accepted (guest_bytes fs host) start) refl
-    where
-      go : (r : Result Trail Broken) → accepted (guest_bytes fs host) start ≡ r → o ≡ outcome_of (place_of fs) r frame kept → IfOk r (LeadsHome fs o.frame)
-      go (Err e) a q = tt
-      go (Ok w) a q =
-          let b = bind_ok (walked (guest_bytes fs host) start) _ w a in
-          let v : Trail = b.0 in
-          let same : v ≡ w = not_overwriting (first_overwriting (extents_of v.cells) v.cells) v w b.2 in
-          let fit = fitting fs host start w (b.1 ∙ ap Ok same) in
-          let P : List ℕ → Type 0 = λ x. LeadsHome fs x w in
-          subst P (sym (ap (λ (x : Outcome). x.frame) q)) (leads_home w fit)
+  -- the frame of a program that is accepted
+  pub frame_leads_home : (host : List ℕ) (start : ℕ) (w : Trail) (frame : List ℕ) → walked (guest_bytes fs host) start ≡ Ok w → first_overwriting (extents_of w.cells) w.cells ≡ None → frame ≡ frame_of (place_of fs) w
+      → IfOk (accepted (guest_bytes fs host) start) (LeadsHome fs frame)
+  frame_leads_home host start w frame e n f = rw (e, n, f) (leads_home w (fitting fs host start w e))

@@ -1,22 +1,11 @@
 -- Pages marked one after the other.
-use Rattle.std.proofs.Common.{◌≡◌, ℕ, ◌/◌, ◌<◌, Bool, true, false, ◌||◌, eqb, List, [], ◌∷◌, length, get_or, set, sym, refl, ap, ◌∙◌, subst, inl, inr}
+use Rattle.std.proofs.Common.{◌≡◌, ℕ, ◌/◌, ◌<◌, Bool, true, false, ◌||◌, eqb, List, [], ◌∷◌, length, get_or, set, sym, ap, ◌∙◌, subst, inl, inr}
+use Rattle.std.proofs.Math.Bool.{or_assoc, or-true, or-false}
 use Rattle.std.proofs.lemmas.List.{get_or-set_same, get_or-set_other}
 use Rattle.std.proofs.lemmas.Bool.{cases_eq, eq-eqb, ne_eqb}
 use Rattle.rules.specs.declared.pieces.Piece.{Piece}
 use Rattle.rules.specs.TakingUp.{Cell}
 use Rattle.translate.specs.Translations.{piece_in, data_in}
-
-or_assoc : (a b c : Bool) → (a || b) || c ≡ a || (b || c)
-or_assoc true b c = refl
-or_assoc false b c = refl
-
-or_true : (a : Bool) → a || true ≡ true
-or_true true = refl
-or_true false = refl
-
-pub or_false : (a : Bool) → a || false ≡ a
-or_false true = refl
-or_false false = refl
 
 -- a flag that is set
 marked : (flags : List Bool) (n page : ℕ) → page < length flags → get_or (set flags n true) page false ≡ get_or flags page false || eqb n page
@@ -24,10 +13,10 @@ marked flags n page h =
     elim (cases_eq page n) [
       | inl same ↦
           ap (λ k. get_or (set flags n true) k false) same ∙ get_or-set_same flags n true false (subst (λ k. k < length flags) same h)
-          ∙ sym (ap (λ x. get_or flags page false || x) (eq-eqb n page (sym same)) ∙ or_true (get_or flags page false))
+          ∙ sym (ap (λ x. get_or flags page false || x) (eq-eqb n page (sym same)) ∙ or-true (get_or flags page false))
       | inr other ↦
           get_or-set_other flags n page true false other
-          ∙ sym (ap (λ x. get_or flags page false || x) (ne_eqb n page (λ e. other (sym e))) ∙ or_false (get_or flags page false))
+          ∙ sym (ap (λ x. get_or flags page false || x) (ne_eqb n page (λ e. other (sym e))) ∙ or-false (get_or flags page false))
     ]
 
 -- one piece more
@@ -38,7 +27,7 @@ piece_marked flags p rest page h = ap (λ x. x || piece_in page rest) (marked fl
 
 pub no_piece_in : (page : ℕ) (flag : Bool) → flag || piece_in page [] ≡ flag
 unfolding piece_in
-no_piece_in page flag = or_false flag
+no_piece_in page flag = or-false flag
 
 -- one cell more
 pub cell_marked : (t : Cell) (rest : List Cell) (page : ℕ) (before after : Bool) → after ≡ before || piece_in page t.pieces → after || data_in rest page ≡ before || data_in (t ∷ rest) page
@@ -47,4 +36,4 @@ cell_marked t rest page before after e = ap (λ x. x || data_in rest page) e ∙
 
 pub no_data_in : (page : ℕ) (flag : Bool) → flag || data_in [] page ≡ flag
 unfolding data_in
-no_data_in page flag = or_false flag
+no_data_in page flag = or-false flag

@@ -8,7 +8,7 @@ use map::interface::MOST_PAGES;
 use rules::pieces::Pieces;
 use walk::cells::Cells;
 
-// For each page of a guest whether a program has data in it.
+// For each page of a guest whether a program has data in it. A rule of the project: a set in fixed memory, with no heap.
 #[derive(Clone, Copy, Debug, PartialEq, Eq)]
 pub struct DataPages {
     flags: [bool; MOST_PAGES],
@@ -43,7 +43,7 @@ impl DataPages {
         ensures size { length self.new.flags ≡ 128 }
         ensures pages { (page : ℕ) → page < 128 → slice_index_or self.new.flags page false ≡ (slice_index_or self.old.flags page false || piece_in page (listed pieces.now)) }
     {
-        for piece in pieces.iter() {
+        for piece in pieces {
             self.mark_page(piece.first / PAGE_SIZE as usize);
         }
     }
@@ -54,7 +54,7 @@ pub(crate) fn data_pages_of(cells: &Cells) -> DataPages
     ensures { result.flags ≡ data_pages (cells_of cells.now) }
 {
     let mut pages = DataPages::none();
-    for taken in cells.iter() {
+    for taken in cells {
         pages.mark(&taken.pieces);
     }
     pages

@@ -28,6 +28,9 @@ const CELL_SIZE: usize = 8;
 
 const WORD_SIZE: usize = 4;
 
+// The command code of a TIC.
+const TIC: u8 = 0x08;
+
 // The cell of a guest's CCW, with its list at an address of the frame.
 fn cell_ccw(taken: &Taken, list: u32) -> Ccw
     ensures { result ≡ cell_ccw (cell_of taken.now) list }
@@ -54,7 +57,7 @@ fn transfer_to(cell: usize) -> Ccw
     ensures { result ≡ transfer_to cell }
 {
     Ccw {
-        code: 8,
+        code: TIC,
         flags: Flags::default(),
         count: 0,
         address: (CELL_SIZE * cell) as u32,
@@ -116,7 +119,7 @@ fn write_lists<M: Map>(map: &M, cells: &Cells, part: &mut [u8]) -> usize
     ensures lists { part.new ≡ put_at 0 (words_bytes (each (place_of (M.frames map.now)) (words_of (cells_of cells.now)))) part.old }
 {
     let mut words = 0;
-    for taken in cells.iter() {
+    for taken in cells {
         write_list(map, &taken.pieces, part, WORD_SIZE * words);
         words += taken.pieces.len();
     }

@@ -4,7 +4,7 @@ use walk::own_bytes::OwnBytes;
 
 pub mod making;
 
-// What is kept of a translated program besides its frame.
+// What is kept of a translated program besides its frame. No `PartialEq`, since its back table has none.
 #[derive(Debug, Drop)]
 pub struct Kept {
     pub back: BackTable,

@@ -83,10 +83,6 @@ cells_more : (xs : List Cell) (t : Cell) (r : Result Trail Broken) → with_cell
 cells_more xs t (Ok w) = ap (λ x. Ok (record { cells = x; closes = w.closes })) (sym (append_assoc xs (t ∷ []) w.cells))
 cells_more xs t (Err e) = refl
 
-pub cells_none : (r : Result Trail Broken) → with_cells [] r ≡ r
-cells_none (Ok w) = refl
-cells_none (Err e) = refl
-
 -- the cells there are, with those still to come from a place on
 abbrev pub whole : ℕ → Reader → List Cell → ℕ → ℕ → Bool → Option ℕ → Result Trail Broken
 whole L b xs n a first command = with_cells xs (walk (65 - length xs) L b xs n a first command)

@@ -1,9 +1,10 @@
+use super::cells::MOST_PLACES;
 use arrayvec::ArrayVec;
 
 pub mod asking;
 
 // The most runs of bytes of a program: two for each CCW.
-pub const MOST_EXTENTS: usize = 128;
+pub const MOST_EXTENTS: usize = 2 * MOST_PLACES;
 
 // A run of bytes that belong to a program.
 #[derive(Clone, Copy, Debug, Default, PartialEq, Eq)]

@@ -17,7 +17,7 @@ use rules::taking_up::read_up;
 const MOST_WORDS: usize = 768;
 
 // The CCWs that a walk met so far, and the words of their translation: one for each piece of their areas.
-#[derive(Drop)]
+#[derive(Debug, Drop)]
 pub(crate) struct Visited {
     pub(crate) cells: Cells,
     words: usize,
@@ -58,6 +58,7 @@ impl Visited {
     fn met_before(&self, address: u32, command: Option<u8>) -> Option<usize>
         ensures { result ≡ met address command (cells_of self.now.cells) 0 }
     {
+        // A rule of the project: an inner search over the places met, whose labelled break yields the index.
         'met: {
             for (index, cell) in self.cells.iter().enumerate() {
                 if is_same_place(cell.ccw.address, cell.before, address, command) {

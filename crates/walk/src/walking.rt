@@ -22,8 +22,11 @@ fn place_behind(taken: &Taken) -> Option<Place>
     })
 }
 
-fn walk_places<S: Storage>(storage: &S, start: u32) -> Result<Walked, Broken>
-    ensures { answered trail_of result ≡ trail 65 (reach (S.bytes storage.now)) (reader (S.bytes storage.now)) [] 0 start true no_command }
+// Walks over the program that starts at an address, on a guest's storage in format 0.
+pub fn walk_program<S: Storage>(storage: &S, start: u32) -> Result<Walked, Broken>
+    ensures is { answered trail_of result ≡ trail 65 (reach (S.bytes storage.now)) (reader (S.bytes storage.now)) [] 0 start true no_command }
+    ensures sound { IfOk result (λ w. SoundTrail (reach (S.bytes storage.now)) (reader (S.bytes storage.now)) start (trail_of w)) }
+    ensures alone { IfOk result (λ w. OwnBytesAlone (S.bytes storage.now) start (trail_of w)) }
 {
     let mut visited = Visited::none();
     let mut place = Place {
@@ -31,6 +34,7 @@ fn walk_places<S: Storage>(storage: &S, start: u32) -> Result<Walked, Broken>
         first: true,
         command: None,
     };
+    // A rule of the project: the walk is a loop, whose labelled break yields the index at which it closes.
     let closes = 'walk: loop {
         match visited.visit(storage, place)? {
             Visit::Met(index) => break 'walk Some(index),
@@ -48,13 +52,4 @@ fn walk_places<S: Storage>(storage: &S, start: u32) -> Result<Walked, Broken>
         cells: visited.cells,
         closes,
     })
-}
-
-// Walks over the program that starts at an address, on a guest's storage in format 0.
-pub fn walk_program<S: Storage>(storage: &S, start: u32) -> Result<Walked, Broken>
-    ensures is { answered trail_of result ≡ trail 65 (reach (S.bytes storage.now)) (reader (S.bytes storage.now)) [] 0 start true no_command }
-    ensures sound { IfOk result (λ w. SoundTrail (reach (S.bytes storage.now)) (reader (S.bytes storage.now)) start (trail_of w)) }
-    ensures alone { IfOk result (λ w. OwnBytesAlone (S.bytes storage.now) start (trail_of w)) }
-{
-    walk_places(storage, start)
 }

@@ -1,5 +1,5 @@
 use super::{BOTH, CONTROL, ONE, READ, READ_BACKWARD, WRITE, ZERO};
-use crate::row::{At, Entry, Expected, Row, Section};
+use crate::row::{Accepted, At, Entry, Refused, Row, Section};
 use rules::pieces::Piece;
 
 pub const RULE_10: Section = Section {
@@ -12,14 +12,14 @@ pub const RULE_10: Section = Section {
             length: 0x2000,
             contents: &[Entry::Ccw(0x100, WRITE, 0x00, 1, 0x1FFF)],
             place: At::First(0x100),
-            expected: Expected::Accepted(
-                0x100,
-                WRITE,
-                &[Piece {
+            expected: Ok(Accepted {
+                ccw: 0x100,
+                code: WRITE,
+                area: &[Piece {
                     first: 0x1FFF,
                     size: 1,
                 }],
-            ),
+            }),
         },
         Row {
             name: "from 1FFF, 2 bytes",
@@ -27,7 +27,11 @@ pub const RULE_10: Section = Section {
             length: 0x2000,
             contents: &[Entry::Ccw(0x100, WRITE, 0x00, 2, 0x1FFF)],
             place: At::First(0x100),
-            expected: Expected::Refused(10, 0x2000, 0x100),
+            expected: Err(Refused {
+                rule: 10,
+                names: 0x2000,
+                counts_from: 0x100,
+            }),
         },
         Row {
             name: "from 2000, 1 byte",
@@ -35,7 +39,11 @@ pub const RULE_10: Section = Section {
             length: 0x2000,
             contents: &[Entry::Ccw(0x100, WRITE, 0x00, 1, 0x2000)],
             place: At::First(0x100),
-            expected: Expected::Refused(10, 0x2000, 0x100),
+            expected: Err(Refused {
+                rule: 10,
+                names: 0x2000,
+                counts_from: 0x100,
+            }),
         },
         Row {
             name: "from 2001, 1 byte",
@@ -43,7 +51,11 @@ pub const RULE_10: Section = Section {
             length: 0x2000,
             contents: &[Entry::Ccw(0x100, WRITE, 0x00, 1, 0x2001)],
             place: At::First(0x100),
-            expected: Expected::Refused(10, 0x2001, 0x100),
+            expected: Err(Refused {
+                rule: 10,
+                names: 0x2001,
+                counts_from: 0x100,
+            }),
         },
         Row {
             name: "from 7FE, 4 bytes",
@@ -51,10 +63,10 @@ pub const RULE_10: Section = Section {
             length: 0x2000,
             contents: &[Entry::Ccw(0x100, WRITE, 0x00, 4, 0x7FE)],
             place: At::First(0x100),
-            expected: Expected::Accepted(
-                0x100,
-                WRITE,
-                &[
+            expected: Ok(Accepted {
+                ccw: 0x100,
+                code: WRITE,
+                area: &[
                     Piece {
                         first: 0x7FE,
                         size: 2,
@@ -64,7 +76,7 @@ pub const RULE_10: Section = Section {
                         size: 2,
                     },
                 ],
-            ),
+            }),
         },
         Row {
             name: "from 1000, 4096 bytes",
@@ -72,10 +84,10 @@ pub const RULE_10: Section = Section {
             length: 0x2000,
             contents: &[Entry::Ccw(0x100, READ, 0x00, 4096, 0x1000)],
             place: At::First(0x100),
-            expected: Expected::Accepted(
-                0x100,
-                READ,
-                &[
+            expected: Ok(Accepted {
+                ccw: 0x100,
+                code: READ,
+                area: &[
                     Piece {
                         first: 0x1000,
                         size: 2048,
@@ -85,7 +97,7 @@ pub const RULE_10: Section = Section {
                         size: 2048,
                     },
                 ],
-            ),
+            }),
         },
         Row {
             name: "from 1000, 4097 bytes",
@@ -93,7 +105,11 @@ pub const RULE_10: Section = Section {
             length: 0x2000,
             contents: &[Entry::Ccw(0x100, READ, 0x00, 4097, 0x1000)],
             place: At::First(0x100),
-            expected: Expected::Refused(10, 0x2000, 0x100),
+            expected: Err(Refused {
+                rule: 10,
+                names: 0x2000,
+                counts_from: 0x100,
+            }),
         },
         Row {
             name: "from 1FFF, 2 bytes, SKIP",
@@ -101,7 +117,11 @@ pub const RULE_10: Section = Section {
             length: 0x2000,
             contents: &[Entry::Ccw(0x100, READ, 0x10, 2, 0x1FFF)],
             place: At::First(0x100),
-            expected: Expected::Refused(10, 0x2000, 0x100),
+            expected: Err(Refused {
+                rule: 10,
+                names: 0x2000,
+                counts_from: 0x100,
+            }),
         },
         Row {
             name: "from 1FFF, 2 bytes, a control command",
@@ -109,7 +129,11 @@ pub const RULE_10: Section = Section {
             length: 0x2000,
             contents: &[Entry::Ccw(0x100, CONTROL, 0x00, 2, 0x1FFF)],
             place: At::First(0x100),
-            expected: Expected::Refused(10, 0x2000, 0x100),
+            expected: Err(Refused {
+                rule: 10,
+                names: 0x2000,
+                counts_from: 0x100,
+            }),
         },
         Row {
             name: "TIC to a CCW from 1FFF, 2 bytes",
@@ -120,7 +144,11 @@ pub const RULE_10: Section = Section {
                 Entry::Tic(0x108, 0x100),
             ],
             place: At::Later(0x108),
-            expected: Expected::Refused(10, 0x2000, 0x100),
+            expected: Err(Refused {
+                rule: 10,
+                names: 0x2000,
+                counts_from: 0x100,
+            }),
         },
         Row {
             name: "from the highest address",
@@ -128,7 +156,11 @@ pub const RULE_10: Section = Section {
             length: 0x2000,
             contents: &[Entry::Ccw(0x100, WRITE, 0x00, 65535, 0xFFFFFF)],
             place: At::First(0x100),
-            expected: Expected::Refused(10, 0xFFFFFF, 0x100),
+            expected: Err(Refused {
+                rule: 10,
+                names: 0xFFFFFF,
+                counts_from: 0x100,
+            }),
         },
         Row {
             name: "from the highest address",
@@ -136,7 +168,11 @@ pub const RULE_10: Section = Section {
             length: 0x2000,
             contents: &[Entry::Ccw(0x100, WRITE, 0x00, 65535, 0xFFFFFFFF)],
             place: At::First(0x100),
-            expected: Expected::Refused(10, 0xFFFFFFFF, 0x100),
+            expected: Err(Refused {
+                rule: 10,
+                names: 0xFFFFFFFF,
+                counts_from: 0x100,
+            }),
         },
         Row {
             name: "backward from 1FFF, 1 byte",
@@ -144,14 +180,14 @@ pub const RULE_10: Section = Section {
             length: 0x2000,
             contents: &[Entry::Ccw(0x100, READ_BACKWARD, 0x00, 1, 0x1FFF)],
             place: At::First(0x100),
-            expected: Expected::Accepted(
-                0x100,
-                READ_BACKWARD,
-                &[Piece {
+            expected: Ok(Accepted {
+                ccw: 0x100,
+                code: READ_BACKWARD,
+                area: &[Piece {
                     first: 0x1FFF,
                     size: 1,
                 }],
-            ),
+            }),
         },
         Row {
             name: "backward from 2000, 1 byte",
@@ -159,7 +195,11 @@ pub const RULE_10: Section = Section {
             length: 0x2000,
             contents: &[Entry::Ccw(0x100, READ_BACKWARD, 0x00, 1, 0x2000)],
             place: At::First(0x100),
-            expected: Expected::Refused(10, 0x2000, 0x100),
+            expected: Err(Refused {
+                rule: 10,
+                names: 0x2000,
+                counts_from: 0x100,
+            }),
         },
         Row {
             name: "backward from 2001, 2 bytes",
@@ -167,7 +207,11 @@ pub const RULE_10: Section = Section {
             length: 0x2000,
             contents: &[Entry::Ccw(0x100, READ_BACKWARD, 0x00, 2, 0x2001)],
             place: At::First(0x100),
-            expected: Expected::Refused(10, 0x2001, 0x100),
+            expected: Err(Refused {
+                rule: 10,
+                names: 0x2001,
+                counts_from: 0x100,
+            }),
         },
         Row {
             name: "backward from 1, 2 bytes",
@@ -175,14 +219,14 @@ pub const RULE_10: Section = Section {
             length: 0x2000,
             contents: &[Entry::Ccw(0x100, READ_BACKWARD, 0x00, 2, 0x01)],
             place: At::First(0x100),
-            expected: Expected::Accepted(
-                0x100,
-                READ_BACKWARD,
-                &[Piece {
+            expected: Ok(Accepted {
+                ccw: 0x100,
+                code: READ_BACKWARD,
+                area: &[Piece {
                     first: 0x01,
                     size: 2,
                 }],
-            ),
+            }),
         },
         Row {
             name: "backward from 1, 3 bytes",
@@ -190,7 +234,11 @@ pub const RULE_10: Section = Section {
             length: 0x2000,
             contents: &[Entry::Ccw(0x100, READ_BACKWARD, 0x00, 3, 0x01)],
             place: At::First(0x100),
-            expected: Expected::Refused(10, 0xFFFFFFFF, 0x100),
+            expected: Err(Refused {
+                rule: 10,
+                names: 0xFFFFFFFF,
+                counts_from: 0x100,
+            }),
         },
         Row {
             name: "backward from 801, 4 bytes",
@@ -198,10 +246,10 @@ pub const RULE_10: Section = Section {
             length: 0x2000,
             contents: &[Entry::Ccw(0x100, READ_BACKWARD, 0x00, 4, 0x801)],
             place: At::First(0x100),
-            expected: Expected::Accepted(
-                0x100,
-                READ_BACKWARD,
-                &[
+            expected: Ok(Accepted {
+                ccw: 0x100,
+                code: READ_BACKWARD,
+                area: &[
                     Piece {
                         first: 0x801,
                         size: 2,
@@ -211,7 +259,7 @@ pub const RULE_10: Section = Section {
                         size: 2,
                     },
                 ],
-            ),
+            }),
         },
         Row {
             name: "backward in force, from 1, 2 bytes",
@@ -219,14 +267,14 @@ pub const RULE_10: Section = Section {
             length: 0x2000,
             contents: &[Entry::Ccw(0x100, READ, 0x00, 2, 0x01)],
             place: At::InForce(0x100, READ_BACKWARD),
-            expected: Expected::Accepted(
-                0x100,
-                READ_BACKWARD,
-                &[Piece {
+            expected: Ok(Accepted {
+                ccw: 0x100,
+                code: READ_BACKWARD,
+                area: &[Piece {
                     first: 0x01,
                     size: 2,
                 }],
-            ),
+            }),
         },
         Row {
             name: "backward in force, from 1, 3 bytes",
@@ -234,7 +282,11 @@ pub const RULE_10: Section = Section {
             length: 0x2000,
             contents: &[Entry::Ccw(0x100, READ, 0x00, 3, 0x01)],
             place: At::InForce(0x100, READ_BACKWARD),
-            expected: Expected::Refused(10, 0xFFFFFFFF, 0x100),
+            expected: Err(Refused {
+                rule: 10,
+                names: 0xFFFFFFFF,
+                counts_from: 0x100,
+            }),
         },
         Row {
             name: "code 0C with a read in force, from 1, 3 bytes",
@@ -242,14 +294,14 @@ pub const RULE_10: Section = Section {
             length: 0x2000,
             contents: &[Entry::Ccw(0x100, READ_BACKWARD, 0x00, 3, 0x01)],
             place: At::InForce(0x100, READ),
-            expected: Expected::Accepted(
-                0x100,
-                READ,
-                &[Piece {
+            expected: Ok(Accepted {
+                ccw: 0x100,
+                code: READ,
+                area: &[Piece {
                     first: 0x01,
                     size: 3,
                 }],
-            ),
+            }),
         },
         Row {
             name: "a list, from 1EFF, 1 byte",
@@ -260,14 +312,14 @@ pub const RULE_10: Section = Section {
                 Entry::Word(0x200, 0x1EFF),
             ],
             place: At::First(0x100),
-            expected: Expected::Accepted(
-                0x100,
-                READ,
-                &[Piece {
+            expected: Ok(Accepted {
+                ccw: 0x100,
+                code: READ,
+                area: &[Piece {
                     first: 0x1EFF,
                     size: 1,
                 }],
-            ),
+            }),
         },
         Row {
             name: "a list, from 1EFF, 2 bytes",
@@ -278,7 +330,11 @@ pub const RULE_10: Section = Section {
                 Entry::Word(0x200, 0x1EFF),
             ],
             place: At::First(0x100),
-            expected: Expected::Refused(10, 0x1F00, 0x100),
+            expected: Err(Refused {
+                rule: 10,
+                names: 0x1F00,
+                counts_from: 0x100,
+            }),
         },
         Row {
             name: "a list, from 1F00, 1 byte",
@@ -289,7 +345,11 @@ pub const RULE_10: Section = Section {
                 Entry::Word(0x200, 0x1F00),
             ],
             place: At::First(0x100),
-            expected: Expected::Refused(10, 0x1F00, 0x100),
+            expected: Err(Refused {
+                rule: 10,
+                names: 0x1F00,
+                counts_from: 0x100,
+            }),
         },
         Row {
             name: "a list, second word 1800, up to the end",
@@ -301,10 +361,10 @@ pub const RULE_10: Section = Section {
                 Entry::Word(0x204, 0x1800),
             ],
             place: At::First(0x100),
-            expected: Expected::Accepted(
-                0x100,
-                READ,
-                &[
+            expected: Ok(Accepted {
+                ccw: 0x100,
+                code: READ,
+                area: &[
                     Piece {
                         first: 0x7FE,
                         size: 2,
@@ -314,7 +374,7 @@ pub const RULE_10: Section = Section {
                         size: 2,
                     },
                 ],
-            ),
+            }),
         },
         Row {
             name: "a list, second word 1800, storage 1 byte shorter",
@@ -326,7 +386,11 @@ pub const RULE_10: Section = Section {
                 Entry::Word(0x204, 0x1800),
             ],
             place: At::First(0x100),
-            expected: Expected::Refused(10, 0x1801, 0x100),
+            expected: Err(Refused {
+                rule: 10,
+                names: 0x1801,
+                counts_from: 0x100,
+            }),
         },
         Row {
             name: "a list, the highest word",
@@ -337,7 +401,11 @@ pub const RULE_10: Section = Section {
                 Entry::Word(0x200, 0xFFFFFFFF),
             ],
             place: At::First(0x100),
-            expected: Expected::Refused(10, 0xFFFFFFFF, 0x100),
+            expected: Err(Refused {
+                rule: 10,
+                names: 0xFFFFFFFF,
+                counts_from: 0x100,
+            }),
         },
         Row {
             name: "backward, a list, from 1EFF, 1 byte",
@@ -348,14 +416,14 @@ pub const RULE_10: Section = Section {
                 Entry::Word(0x200, 0x1EFF),
             ],
             place: At::First(0x100),
-            expected: Expected::Accepted(
-                0x100,
-                READ_BACKWARD,
-                &[Piece {
+            expected: Ok(Accepted {
+                ccw: 0x100,
+                code: READ_BACKWARD,
+                area: &[Piece {
                     first: 0x1EFF,
                     size: 1,
                 }],
-            ),
+            }),
         },
         Row {
             name: "backward, a list, from 1F00, 1 byte",
@@ -366,7 +434,11 @@ pub const RULE_10: Section = Section {
                 Entry::Word(0x200, 0x1F00),
             ],
             place: At::First(0x100),
-            expected: Expected::Refused(10, 0x1F00, 0x100),
+            expected: Err(Refused {
+                rule: 10,
+                names: 0x1F00,
+                counts_from: 0x100,
+            }),
         },
         Row {
             name: "backward, a list, words 000 and 17FF",
@@ -378,10 +450,10 @@ pub const RULE_10: Section = Section {
                 Entry::Word(0x204, 0x17FF),
             ],
             place: At::First(0x100),
-            expected: Expected::Accepted(
-                0x100,
-                READ_BACKWARD,
-                &[
+            expected: Ok(Accepted {
+                ccw: 0x100,
+                code: READ_BACKWARD,
+                area: &[
                     Piece {
                         first: 0x00,
                         size: 1,
@@ -391,7 +463,7 @@ pub const RULE_10: Section = Section {
                         size: 1,
                     },
                 ],
-            ),
+            }),
         },
         Row {
             name: "backward, a list, words 000 and 27FF",
@@ -403,7 +475,11 @@ pub const RULE_10: Section = Section {
                 Entry::Word(0x204, 0x27FF),
             ],
             place: At::First(0x100),
-            expected: Expected::Refused(10, 0x27FF, 0x100),
+            expected: Err(Refused {
+                rule: 10,
+                names: 0x27FF,
+                counts_from: 0x100,
+            }),
         },
     ],
 };

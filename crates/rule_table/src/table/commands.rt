@@ -1,5 +1,5 @@
 use super::{BOTH, ONE, READ, TIC, WRITE, ZERO};
-use crate::row::{At, Entry, Expected, Row, Section};
+use crate::row::{Accepted, At, Entry, Refused, Row, Section};
 use rules::pieces::Piece;
 
 pub const RULE_4: Section = Section {
@@ -12,14 +12,14 @@ pub const RULE_4: Section = Section {
             length: 0x2000,
             contents: &[Entry::Ccw(0x100, 0x11, 0x00, 1, 0x200)],
             place: At::First(0x100),
-            expected: Expected::Accepted(
-                0x100,
-                0x11,
-                &[Piece {
+            expected: Ok(Accepted {
+                ccw: 0x100,
+                code: 0x11,
+                area: &[Piece {
                     first: 0x200,
                     size: 1,
                 }],
-            ),
+            }),
         },
         Row {
             name: "code 10",
@@ -27,7 +27,11 @@ pub const RULE_4: Section = Section {
             length: 0x2000,
             contents: &[Entry::Ccw(0x100, 0x10, 0x00, 1, 0x200)],
             place: At::First(0x100),
-            expected: Expected::Refused(4, 0x100, 0x100),
+            expected: Err(Refused {
+                rule: 4,
+                names: 0x100,
+                counts_from: 0x100,
+            }),
         },
         Row {
             name: "code 00",
@@ -35,7 +39,11 @@ pub const RULE_4: Section = Section {
             length: 0x2000,
             contents: &[Entry::Ccw(0x100, 0x00, 0x00, 1, 0x200)],
             place: At::First(0x100),
-            expected: Expected::Refused(4, 0x100, 0x100),
+            expected: Err(Refused {
+                rule: 4,
+                names: 0x100,
+                counts_from: 0x100,
+            }),
         },
         Row {
             name: "code 00, not the first place",
@@ -43,7 +51,11 @@ pub const RULE_4: Section = Section {
             length: 0x2000,
             contents: &[Entry::Ccw(0x100, 0x00, 0x00, 1, 0x200)],
             place: At::Later(0x100),
-            expected: Expected::Refused(4, 0x100, 0x100),
+            expected: Err(Refused {
+                rule: 4,
+                names: 0x100,
+                counts_from: 0x100,
+            }),
         },
         Row {
             name: "code 00 with a write in force",
@@ -51,14 +63,14 @@ pub const RULE_4: Section = Section {
             length: 0x2000,
             contents: &[Entry::Ccw(0x100, 0x00, 0x00, 1, 0x200)],
             place: At::InForce(0x100, WRITE),
-            expected: Expected::Accepted(
-                0x100,
-                WRITE,
-                &[Piece {
+            expected: Ok(Accepted {
+                ccw: 0x100,
+                code: WRITE,
+                area: &[Piece {
                     first: 0x200,
                     size: 1,
                 }],
-            ),
+            }),
         },
         Row {
             name: "TIC to a code 00",
@@ -69,7 +81,11 @@ pub const RULE_4: Section = Section {
                 Entry::Tic(0x108, 0x100),
             ],
             place: At::Later(0x108),
-            expected: Expected::Refused(4, 0x100, 0x100),
+            expected: Err(Refused {
+                rule: 4,
+                names: 0x100,
+                counts_from: 0x100,
+            }),
         },
         Row {
             name: "TIC to a code 00 with a write in force",
@@ -80,14 +96,14 @@ pub const RULE_4: Section = Section {
                 Entry::Tic(0x108, 0x100),
             ],
             place: At::InForce(0x108, WRITE),
-            expected: Expected::Accepted(
-                0x100,
-                WRITE,
-                &[Piece {
+            expected: Ok(Accepted {
+                ccw: 0x100,
+                code: WRITE,
+                area: &[Piece {
                     first: 0x200,
                     size: 1,
                 }],
-            ),
+            }),
         },
         Row {
             name: "code 18",
@@ -98,14 +114,14 @@ pub const RULE_4: Section = Section {
                 Entry::Ccw(0x108, 0x18, 0x00, 0, 0x100),
             ],
             place: At::Later(0x108),
-            expected: Expected::Accepted(
-                0x100,
-                READ,
-                &[Piece {
+            expected: Ok(Accepted {
+                ccw: 0x100,
+                code: READ,
+                area: &[Piece {
                     first: 0x200,
                     size: 1,
                 }],
-            ),
+            }),
         },
         Row {
             name: "code 18",
@@ -116,7 +132,11 @@ pub const RULE_4: Section = Section {
                 Entry::Ccw(0x108, 0x18, 0x00, 0, 0x100),
             ],
             place: At::Later(0x108),
-            expected: Expected::Refused(4, 0x108, 0x108),
+            expected: Err(Refused {
+                rule: 4,
+                names: 0x108,
+                counts_from: 0x108,
+            }),
         },
         Row {
             name: "code 18 with a write in force",
@@ -127,14 +147,14 @@ pub const RULE_4: Section = Section {
                 Entry::Ccw(0x108, 0x18, 0x00, 0, 0x100),
             ],
             place: At::InForce(0x108, WRITE),
-            expected: Expected::Accepted(
-                0x100,
-                WRITE,
-                &[Piece {
+            expected: Ok(Accepted {
+                ccw: 0x100,
+                code: WRITE,
+                area: &[Piece {
                     first: 0x200,
                     size: 1,
                 }],
-            ),
+            }),
         },
         Row {
             name: "code 18 with a write in force",
@@ -145,7 +165,11 @@ pub const RULE_4: Section = Section {
                 Entry::Ccw(0x108, 0x18, 0x00, 0, 0x100),
             ],
             place: At::InForce(0x108, WRITE),
-            expected: Expected::Refused(4, 0x108, 0x108),
+            expected: Err(Refused {
+                rule: 4,
+                names: 0x108,
+                counts_from: 0x108,
+            }),
         },
         Row {
             name: "TIC to a code 18",
@@ -157,7 +181,11 @@ pub const RULE_4: Section = Section {
                 Entry::Ccw(0x110, 0x18, 0x00, 0, 0x100),
             ],
             place: At::Later(0x108),
-            expected: Expected::Refused(4, 0x110, 0x110),
+            expected: Err(Refused {
+                rule: 4,
+                names: 0x110,
+                counts_from: 0x110,
+            }),
         },
         Row {
             name: "rule 4 before rule 3: code 18 as the first place",
@@ -168,7 +196,11 @@ pub const RULE_4: Section = Section {
                 Entry::Ccw(0x108, 0x18, 0x00, 0, 0x100),
             ],
             place: At::First(0x108),
-            expected: Expected::Refused(4, 0x108, 0x108),
+            expected: Err(Refused {
+                rule: 4,
+                names: 0x108,
+                counts_from: 0x108,
+            }),
         },
         Row {
             name: "rule 4 before rule 5: code 00 with flag 08",
@@ -176,7 +208,11 @@ pub const RULE_4: Section = Section {
             length: 0x2000,
             contents: &[Entry::Ccw(0x100, 0x00, 0x08, 1, 0x200)],
             place: At::First(0x100),
-            expected: Expected::Refused(4, 0x100, 0x100),
+            expected: Err(Refused {
+                rule: 4,
+                names: 0x100,
+                counts_from: 0x100,
+            }),
         },
     ],
 };
@@ -191,14 +227,14 @@ pub const RULE_5: Section = Section {
             length: 0x2000,
             contents: &[Entry::Ccw(0x100, READ, 0x80, 1, 0x200)],
             place: At::First(0x100),
-            expected: Expected::Accepted(
-                0x100,
-                READ,
-                &[Piece {
+            expected: Ok(Accepted {
+                ccw: 0x100,
+                code: READ,
+                area: &[Piece {
                     first: 0x200,
                     size: 1,
                 }],
-            ),
+            }),
         },
         Row {
             name: "flag 40",
@@ -206,14 +242,14 @@ pub const RULE_5: Section = Section {
             length: 0x2000,
             contents: &[Entry::Ccw(0x100, READ, 0x40, 1, 0x200)],
             place: At::First(0x100),
-            expected: Expected::Accepted(
-                0x100,
-                READ,
-                &[Piece {
+            expected: Ok(Accepted {
+                ccw: 0x100,
+                code: READ,
+                area: &[Piece {
                     first: 0x200,
                     size: 1,
                 }],
-            ),
+            }),
         },
         Row {
             name: "flag 20",
@@ -221,14 +257,14 @@ pub const RULE_5: Section = Section {
             length: 0x2000,
             contents: &[Entry::Ccw(0x100, READ, 0x20, 1, 0x200)],
             place: At::First(0x100),
-            expected: Expected::Accepted(
-                0x100,
-                READ,
-                &[Piece {
+            expected: Ok(Accepted {
+                ccw: 0x100,
+                code: READ,
+                area: &[Piece {
                     first: 0x200,
                     size: 1,
                 }],
-            ),
+            }),
         },
         Row {
             name: "flag 10",
@@ -236,14 +272,14 @@ pub const RULE_5: Section = Section {
             length: 0x2000,
             contents: &[Entry::Ccw(0x100, READ, 0x10, 1, 0x200)],
             place: At::First(0x100),
-            expected: Expected::Accepted(
-                0x100,
-                READ,
-                &[Piece {
+            expected: Ok(Accepted {
+                ccw: 0x100,
+                code: READ,
+                area: &[Piece {
                     first: 0x200,
                     size: 1,
                 }],
-            ),
+            }),
         },
         Row {
             name: "flag 08",
@@ -251,7 +287,11 @@ pub const RULE_5: Section = Section {
             length: 0x2000,
             contents: &[Entry::Ccw(0x100, READ, 0x08, 1, 0x200)],
             place: At::First(0x100),
-            expected: Expected::Refused(5, 0x100, 0x100),
+            expected: Err(Refused {
+                rule: 5,
+                names: 0x100,
+                counts_from: 0x100,
+            }),
         },
         Row {
             name: "flag 04",
@@ -262,14 +302,14 @@ pub const RULE_5: Section = Section {
                 Entry::Word(0x200, 0x300),
             ],
             place: At::First(0x100),
-            expected: Expected::Accepted(
-                0x100,
-                READ,
-                &[Piece {
+            expected: Ok(Accepted {
+                ccw: 0x100,
+                code: READ,
+                area: &[Piece {
                     first: 0x300,
                     size: 1,
                 }],
-            ),
+            }),
         },
         Row {
             name: "flag 02",
@@ -277,7 +317,11 @@ pub const RULE_5: Section = Section {
             length: 0x2000,
             contents: &[Entry::Ccw(0x100, READ, 0x02, 1, 0x200)],
             place: At::First(0x100),
-            expected: Expected::Refused(5, 0x100, 0x100),
+            expected: Err(Refused {
+                rule: 5,
+                names: 0x100,
+                counts_from: 0x100,
+            }),
         },
         Row {
             name: "flag 01",
@@ -285,7 +329,11 @@ pub const RULE_5: Section = Section {
             length: 0x2000,
             contents: &[Entry::Ccw(0x100, READ, 0x01, 1, 0x200)],
             place: At::First(0x100),
-            expected: Expected::Refused(5, 0x100, 0x100),
+            expected: Err(Refused {
+                rule: 5,
+                names: 0x100,
+                counts_from: 0x100,
+            }),
         },
         Row {
             name: "flags F4, all that are accepted",
@@ -296,14 +344,14 @@ pub const RULE_5: Section = Section {
                 Entry::Word(0x200, 0x300),
             ],
             place: At::First(0x100),
-            expected: Expected::Accepted(
-                0x100,
-                READ,
-                &[Piece {
+            expected: Ok(Accepted {
+                ccw: 0x100,
+                code: READ,
+                area: &[Piece {
                     first: 0x300,
                     size: 1,
                 }],
-            ),
+            }),
         },
         Row {
             name: "flags FC",
@@ -314,7 +362,11 @@ pub const RULE_5: Section = Section {
                 Entry::Word(0x200, 0x300),
             ],
             place: At::First(0x100),
-            expected: Expected::Refused(5, 0x100, 0x100),
+            expected: Err(Refused {
+                rule: 5,
+                names: 0x100,
+                counts_from: 0x100,
+            }),
         },
         Row {
             name: "flag 08 with a read in force",
@@ -322,7 +374,11 @@ pub const RULE_5: Section = Section {
             length: 0x2000,
             contents: &[Entry::Ccw(0x100, READ, 0x08, 1, 0x200)],
             place: At::InForce(0x100, READ),
-            expected: Expected::Refused(5, 0x100, 0x100),
+            expected: Err(Refused {
+                rule: 5,
+                names: 0x100,
+                counts_from: 0x100,
+            }),
         },
         Row {
             name: "TIC to a CCW with flag 01",
@@ -333,7 +389,11 @@ pub const RULE_5: Section = Section {
                 Entry::Tic(0x108, 0x100),
             ],
             place: At::Later(0x108),
-            expected: Expected::Refused(5, 0x100, 0x100),
+            expected: Err(Refused {
+                rule: 5,
+                names: 0x100,
+                counts_from: 0x100,
+            }),
         },
         Row {
             name: "code 58, flags FF and count 65535",
@@ -344,14 +404,14 @@ pub const RULE_5: Section = Section {
                 Entry::Ccw(0x108, 0x58, 0xFF, 65535, 0x100),
             ],
             place: At::Later(0x108),
-            expected: Expected::Accepted(
-                0x100,
-                READ,
-                &[Piece {
+            expected: Ok(Accepted {
+                ccw: 0x100,
+                code: READ,
+                area: &[Piece {
                     first: 0x200,
                     size: 1,
                 }],
-            ),
+            }),
         },
         Row {
             name: "TIC with flags 00 and count 0",
@@ -362,14 +422,14 @@ pub const RULE_5: Section = Section {
                 Entry::Tic(0x108, 0x100),
             ],
             place: At::Later(0x108),
-            expected: Expected::Accepted(
-                0x100,
-                READ,
-                &[Piece {
+            expected: Ok(Accepted {
+                ccw: 0x100,
+                code: READ,
+                area: &[Piece {
                     first: 0x200,
                     size: 1,
                 }],
-            ),
+            }),
         },
         Row {
             name: "TIC with flag 80",
@@ -380,7 +440,11 @@ pub const RULE_5: Section = Section {
                 Entry::Ccw(0x108, TIC, 0x80, 0, 0x100),
             ],
             place: At::Later(0x108),
-            expected: Expected::Refused(5, 0x108, 0x108),
+            expected: Err(Refused {
+                rule: 5,
+                names: 0x108,
+                counts_from: 0x108,
+            }),
         },
         Row {
             name: "TIC with flag 20",
@@ -391,7 +455,11 @@ pub const RULE_5: Section = Section {
                 Entry::Ccw(0x108, TIC, 0x20, 0, 0x100),
             ],
             place: At::Later(0x108),
-            expected: Expected::Refused(5, 0x108, 0x108),
+            expected: Err(Refused {
+                rule: 5,
+                names: 0x108,
+                counts_from: 0x108,
+            }),
         },
         Row {
             name: "TIC with flag 01",
@@ -402,7 +470,11 @@ pub const RULE_5: Section = Section {
                 Entry::Ccw(0x108, TIC, 0x01, 0, 0x100),
             ],
             place: At::Later(0x108),
-            expected: Expected::Refused(5, 0x108, 0x108),
+            expected: Err(Refused {
+                rule: 5,
+                names: 0x108,
+                counts_from: 0x108,
+            }),
         },
         Row {
             name: "TIC with count 1",
@@ -413,7 +485,11 @@ pub const RULE_5: Section = Section {
                 Entry::Ccw(0x108, TIC, 0x00, 1, 0x100),
             ],
             place: At::Later(0x108),
-            expected: Expected::Refused(5, 0x108, 0x108),
+            expected: Err(Refused {
+                rule: 5,
+                names: 0x108,
+                counts_from: 0x108,
+            }),
         },
         Row {
             name: "rule 5 before rule 6: flag 08 and count 0",
@@ -421,7 +497,11 @@ pub const RULE_5: Section = Section {
             length: 0x2000,
             contents: &[Entry::Ccw(0x100, READ, 0x08, 0, 0x200)],
             place: At::First(0x100),
-            expected: Expected::Refused(5, 0x100, 0x100),
+            expected: Err(Refused {
+                rule: 5,
+                names: 0x100,
+                counts_from: 0x100,
+            }),
         },
         Row {
             name: "rule 5 before rule 1: TIC with a flag to 104",
@@ -429,7 +509,11 @@ pub const RULE_5: Section = Section {
             length: 0x2000,
             contents: &[Entry::Ccw(0x108, TIC, 0x20, 0, 0x104)],
             place: At::Later(0x108),
-            expected: Expected::Refused(5, 0x108, 0x108),
+            expected: Err(Refused {
+                rule: 5,
+                names: 0x108,
+                counts_from: 0x108,
+            }),
         },
     ],
 };
@@ -444,14 +528,14 @@ pub const RULE_6: Section = Section {
             length: 0x2000,
             contents: &[Entry::Ccw(0x100, READ, 0x00, 1, 0x200)],
             place: At::First(0x100),
-            expected: Expected::Accepted(
-                0x100,
-                READ,
-                &[Piece {
+            expected: Ok(Accepted {
+                ccw: 0x100,
+                code: READ,
+                area: &[Piece {
                     first: 0x200,
                     size: 1,
                 }],
-            ),
+            }),
         },
         Row {
             name: "count 0",
@@ -459,7 +543,11 @@ pub const RULE_6: Section = Section {
             length: 0x2000,
             contents: &[Entry::Ccw(0x100, READ, 0x00, 0, 0x200)],
             place: At::First(0x100),
-            expected: Expected::Refused(6, 0x100, 0x100),
+            expected: Err(Refused {
+                rule: 6,
+                names: 0x100,
+                counts_from: 0x100,
+            }),
         },
         Row {
             name: "count 256",
@@ -467,14 +555,14 @@ pub const RULE_6: Section = Section {
             length: 0x2000,
             contents: &[Entry::Ccw(0x100, READ, 0x00, 256, 0x200)],
             place: At::First(0x100),
-            expected: Expected::Accepted(
-                0x100,
-                READ,
-                &[Piece {
+            expected: Ok(Accepted {
+                ccw: 0x100,
+                code: READ,
+                area: &[Piece {
                     first: 0x200,
                     size: 256,
                 }],
-            ),
+            }),
         },
         Row {
             name: "count 0 with a read in force",
@@ -482,7 +570,11 @@ pub const RULE_6: Section = Section {
             length: 0x2000,
             contents: &[Entry::Ccw(0x100, READ, 0x00, 0, 0x200)],
             place: At::InForce(0x100, READ),
-            expected: Expected::Refused(6, 0x100, 0x100),
+            expected: Err(Refused {
+                rule: 6,
+                names: 0x100,
+                counts_from: 0x100,
+            }),
         },
         Row {
             name: "TIC to a CCW with count 0",
@@ -493,7 +585,11 @@ pub const RULE_6: Section = Section {
                 Entry::Tic(0x108, 0x100),
             ],
             place: At::Later(0x108),
-            expected: Expected::Refused(6, 0x100, 0x100),
+            expected: Err(Refused {
+                rule: 6,
+                names: 0x100,
+                counts_from: 0x100,
+            }),
         },
         Row {
             name: "rule 6 before rule 7: count 0 and a list at 202",
@@ -501,7 +597,11 @@ pub const RULE_6: Section = Section {
             length: 0x2000,
             contents: &[Entry::Ccw(0x100, READ, 0x04, 0, 0x202)],
             place: At::First(0x100),
-            expected: Expected::Refused(6, 0x100, 0x100),
+            expected: Err(Refused {
+                rule: 6,
+                names: 0x100,
+                counts_from: 0x100,
+            }),
         },
     ],
 };

@@ -1,5 +1,5 @@
 use super::{BOTH, ONE, READ, READ_BACKWARD, ZERO};
-use crate::row::{At, Entry, Expected, Row, Section};
+use crate::row::{Accepted, At, Entry, Refused, Row, Section};
 use rules::pieces::Piece;
 
 pub const RULE_7: Section = Section {
@@ -15,14 +15,14 @@ pub const RULE_7: Section = Section {
                 Entry::Word(0x200, 0x300),
             ],
             place: At::First(0x100),
-            expected: Expected::Accepted(
-                0x100,
-                READ,
-                &[Piece {
+            expected: Ok(Accepted {
+                ccw: 0x100,
+                code: READ,
+                area: &[Piece {
                     first: 0x300,
                     size: 1,
                 }],
-            ),
+            }),
         },
         Row {
             name: "list at 201",
@@ -33,7 +33,11 @@ pub const RULE_7: Section = Section {
                 Entry::Word(0x201, 0x300),
             ],
             place: At::First(0x100),
-            expected: Expected::Refused(7, 0x100, 0x100),
+            expected: Err(Refused {
+                rule: 7,
+                names: 0x100,
+                counts_from: 0x100,
+            }),
         },
         Row {
             name: "list at 202",
@@ -44,7 +48,11 @@ pub const RULE_7: Section = Section {
                 Entry::Word(0x202, 0x300),
             ],
             place: At::First(0x100),
-            expected: Expected::Refused(7, 0x100, 0x100),
+            expected: Err(Refused {
+                rule: 7,
+                names: 0x100,
+                counts_from: 0x100,
+            }),
         },
         Row {
             name: "list at 203",
@@ -55,7 +63,11 @@ pub const RULE_7: Section = Section {
                 Entry::Word(0x203, 0x300),
             ],
             place: At::First(0x100),
-            expected: Expected::Refused(7, 0x100, 0x100),
+            expected: Err(Refused {
+                rule: 7,
+                names: 0x100,
+                counts_from: 0x100,
+            }),
         },
         Row {
             name: "list at 204",
@@ -66,14 +78,14 @@ pub const RULE_7: Section = Section {
                 Entry::Word(0x204, 0x300),
             ],
             place: At::First(0x100),
-            expected: Expected::Accepted(
-                0x100,
-                READ,
-                &[Piece {
+            expected: Ok(Accepted {
+                ccw: 0x100,
+                code: READ,
+                area: &[Piece {
                     first: 0x300,
                     size: 1,
                 }],
-            ),
+            }),
         },
         Row {
             name: "address 202 without a list",
@@ -81,14 +93,14 @@ pub const RULE_7: Section = Section {
             length: 0x2000,
             contents: &[Entry::Ccw(0x100, READ, 0x00, 1, 0x202)],
             place: At::First(0x100),
-            expected: Expected::Accepted(
-                0x100,
-                READ,
-                &[Piece {
+            expected: Ok(Accepted {
+                ccw: 0x100,
+                code: READ,
+                area: &[Piece {
                     first: 0x202,
                     size: 1,
                 }],
-            ),
+            }),
         },
         Row {
             name: "TIC to a CCW with a list at 202",
@@ -100,7 +112,11 @@ pub const RULE_7: Section = Section {
                 Entry::Tic(0x108, 0x100),
             ],
             place: At::Later(0x108),
-            expected: Expected::Refused(7, 0x100, 0x100),
+            expected: Err(Refused {
+                rule: 7,
+                names: 0x100,
+                counts_from: 0x100,
+            }),
         },
         Row {
             name: "rule 7 before rule 8: list at 2002, behind the end",
@@ -108,7 +124,11 @@ pub const RULE_7: Section = Section {
             length: 0x2000,
             contents: &[Entry::Ccw(0x100, READ, 0x04, 1, 0x2002)],
             place: At::First(0x100),
-            expected: Expected::Refused(7, 0x100, 0x100),
+            expected: Err(Refused {
+                rule: 7,
+                names: 0x100,
+                counts_from: 0x100,
+            }),
         },
     ],
 };
@@ -126,14 +146,14 @@ pub const RULE_8: Section = Section {
                 Entry::Word(0x1FFC, 0x300),
             ],
             place: At::First(0x100),
-            expected: Expected::Accepted(
-                0x100,
-                READ,
-                &[Piece {
+            expected: Ok(Accepted {
+                ccw: 0x100,
+                code: READ,
+                area: &[Piece {
                     first: 0x300,
                     size: 1,
                 }],
-            ),
+            }),
         },
         Row {
             name: "storage 1 byte shorter",
@@ -144,7 +164,11 @@ pub const RULE_8: Section = Section {
                 Entry::Word(0x1FFC, 0x300),
             ],
             place: At::First(0x100),
-            expected: Expected::Refused(8, 0x1FFC, 0x100),
+            expected: Err(Refused {
+                rule: 8,
+                names: 0x1FFC,
+                counts_from: 0x100,
+            }),
         },
         Row {
             name: "list 4 bytes further",
@@ -152,7 +176,11 @@ pub const RULE_8: Section = Section {
             length: 0x2000,
             contents: &[Entry::Ccw(0x100, READ, 0x04, 1, 0x2000)],
             place: At::First(0x100),
-            expected: Expected::Refused(8, 0x2000, 0x100),
+            expected: Err(Refused {
+                rule: 8,
+                names: 0x2000,
+                counts_from: 0x100,
+            }),
         },
         Row {
             name: "second word in the last 4 bytes of storage",
@@ -164,10 +192,10 @@ pub const RULE_8: Section = Section {
                 Entry::Word(0x1FFC, 0x1000),
             ],
             place: At::First(0x100),
-            expected: Expected::Accepted(
-                0x100,
-                READ,
-                &[
+            expected: Ok(Accepted {
+                ccw: 0x100,
+                code: READ,
+                area: &[
                     Piece {
                         first: 0x7FE,
                         size: 2,
@@ -177,7 +205,7 @@ pub const RULE_8: Section = Section {
                         size: 2,
                     },
                 ],
-            ),
+            }),
         },
         Row {
             name: "second word behind the end",
@@ -188,7 +216,11 @@ pub const RULE_8: Section = Section {
                 Entry::Word(0x1FFC, 0x7FE),
             ],
             place: At::First(0x100),
-            expected: Expected::Refused(8, 0x2000, 0x100),
+            expected: Err(Refused {
+                rule: 8,
+                names: 0x2000,
+                counts_from: 0x100,
+            }),
         },
         Row {
             name: "second word behind the end, and not needed",
@@ -199,14 +231,14 @@ pub const RULE_8: Section = Section {
                 Entry::Word(0x1FFC, 0x7FE),
             ],
             place: At::First(0x100),
-            expected: Expected::Accepted(
-                0x100,
-                READ,
-                &[Piece {
+            expected: Ok(Accepted {
+                ccw: 0x100,
+                code: READ,
+                area: &[Piece {
                     first: 0x7FE,
                     size: 2,
                 }],
-            ),
+            }),
         },
         Row {
             name: "TIC to a CCW with a list behind the end",
@@ -217,7 +249,11 @@ pub const RULE_8: Section = Section {
                 Entry::Tic(0x108, 0x100),
             ],
             place: At::Later(0x108),
-            expected: Expected::Refused(8, 0x2000, 0x100),
+            expected: Err(Refused {
+                rule: 8,
+                names: 0x2000,
+                counts_from: 0x100,
+            }),
         },
         Row {
             name: "list at the highest multiple of 4",
@@ -225,7 +261,11 @@ pub const RULE_8: Section = Section {
             length: 0x2000,
             contents: &[Entry::Ccw(0x100, READ, 0x04, 1, 0xFFFFFC)],
             place: At::First(0x100),
-            expected: Expected::Refused(8, 0xFFFFFC, 0x100),
+            expected: Err(Refused {
+                rule: 8,
+                names: 0xFFFFFC,
+                counts_from: 0x100,
+            }),
         },
         Row {
             name: "list at the highest multiple of 4",
@@ -233,7 +273,11 @@ pub const RULE_8: Section = Section {
             length: 0x2000,
             contents: &[Entry::Ccw(0x100, READ, 0x04, 1, 0xFFFFFFFC)],
             place: At::First(0x100),
-            expected: Expected::Refused(8, 0xFFFFFFFC, 0x100),
+            expected: Err(Refused {
+                rule: 8,
+                names: 0xFFFFFFFC,
+                counts_from: 0x100,
+            }),
         },
     ],
 };
@@ -252,10 +296,10 @@ pub const RULE_9: Section = Section {
                 Entry::Word(0x204, 0x1000),
             ],
             place: At::First(0x100),
-            expected: Expected::Accepted(
-                0x100,
-                READ,
-                &[
+            expected: Ok(Accepted {
+                ccw: 0x100,
+                code: READ,
+                area: &[
                     Piece {
                         first: 0x7FE,
                         size: 2,
@@ -265,7 +309,7 @@ pub const RULE_9: Section = Section {
                         size: 2,
                     },
                 ],
-            ),
+            }),
         },
         Row {
             name: "words 7FE and 1001",
@@ -277,7 +321,11 @@ pub const RULE_9: Section = Section {
                 Entry::Word(0x204, 0x1001),
             ],
             place: At::First(0x100),
-            expected: Expected::Refused(9, 0x204, 0x100),
+            expected: Err(Refused {
+                rule: 9,
+                names: 0x204,
+                counts_from: 0x100,
+            }),
         },
         Row {
             name: "words 7FE and FFF",
@@ -289,7 +337,11 @@ pub const RULE_9: Section = Section {
                 Entry::Word(0x204, 0xFFF),
             ],
             place: At::First(0x100),
-            expected: Expected::Refused(9, 0x204, 0x100),
+            expected: Err(Refused {
+                rule: 9,
+                names: 0x204,
+                counts_from: 0x100,
+            }),
         },
         Row {
             name: "words 7FE and 1001, the second not needed",
@@ -301,14 +353,14 @@ pub const RULE_9: Section = Section {
                 Entry::Word(0x204, 0x1001),
             ],
             place: At::First(0x100),
-            expected: Expected::Accepted(
-                0x100,
-                READ,
-                &[Piece {
+            expected: Ok(Accepted {
+                ccw: 0x100,
+                code: READ,
+                area: &[Piece {
                     first: 0x7FE,
                     size: 2,
                 }],
-            ),
+            }),
         },
         Row {
             name: "words 7FE and 000, one block twice",
@@ -320,10 +372,10 @@ pub const RULE_9: Section = Section {
                 Entry::Word(0x204, 0x00),
             ],
             place: At::First(0x100),
-            expected: Expected::Accepted(
-                0x100,
-                READ,
-                &[
+            expected: Ok(Accepted {
+                ccw: 0x100,
+                code: READ,
+                area: &[
                     Piece {
                         first: 0x7FE,
                         size: 2,
@@ -333,7 +385,7 @@ pub const RULE_9: Section = Section {
                         size: 2,
                     },
                 ],
-            ),
+            }),
         },
         Row {
             name: "words 7FE, 1000 and 800",
@@ -346,10 +398,10 @@ pub const RULE_9: Section = Section {
                 Entry::Word(0x208, 0x800),
             ],
             place: At::First(0x100),
-            expected: Expected::Accepted(
-                0x100,
-                READ,
-                &[
+            expected: Ok(Accepted {
+                ccw: 0x100,
+                code: READ,
+                area: &[
                     Piece {
                         first: 0x7FE,
                         size: 2,
@@ -363,7 +415,7 @@ pub const RULE_9: Section = Section {
                         size: 1,
                     },
                 ],
-            ),
+            }),
         },
         Row {
             name: "words 7FE, 1000 and 801",
@@ -376,7 +428,11 @@ pub const RULE_9: Section = Section {
                 Entry::Word(0x208, 0x801),
             ],
             place: At::First(0x100),
-            expected: Expected::Refused(9, 0x208, 0x100),
+            expected: Err(Refused {
+                rule: 9,
+                names: 0x208,
+                counts_from: 0x100,
+            }),
         },
         Row {
             name: "backward, words 1001 and 17FF",
@@ -388,10 +444,10 @@ pub const RULE_9: Section = Section {
                 Entry::Word(0x204, 0x17FF),
             ],
             place: At::First(0x100),
-            expected: Expected::Accepted(
-                0x100,
-                READ_BACKWARD,
-                &[
+            expected: Ok(Accepted {
+                ccw: 0x100,
+                code: READ_BACKWARD,
+                area: &[
                     Piece {
                         first: 0x1001,
                         size: 2,
@@ -401,7 +457,7 @@ pub const RULE_9: Section = Section {
                         size: 2,
                     },
                 ],
-            ),
+            }),
         },
         Row {
             name: "backward, words 1001 and 17FE",
@@ -413,7 +469,11 @@ pub const RULE_9: Section = Section {
                 Entry::Word(0x204, 0x17FE),
             ],
             place: At::First(0x100),
-            expected: Expected::Refused(9, 0x204, 0x100),
+            expected: Err(Refused {
+                rule: 9,
+                names: 0x204,
+                counts_from: 0x100,
+            }),
         },
         Row {
             name: "backward, words 1001 and 1800",
@@ -425,7 +485,11 @@ pub const RULE_9: Section = Section {
                 Entry::Word(0x204, 0x1800),
             ],
             place: At::First(0x100),
-            expected: Expected::Refused(9, 0x204, 0x100),
+            expected: Err(Refused {
+                rule: 9,
+                names: 0x204,
+                counts_from: 0x100,
+            }),
         },
         Row {
             name: "backward in force, words 1001 and 17FF",
@@ -437,10 +501,10 @@ pub const RULE_9: Section = Section {
                 Entry::Word(0x204, 0x17FF),
             ],
             place: At::InForce(0x100, READ_BACKWARD),
-            expected: Expected::Accepted(
-                0x100,
-                READ_BACKWARD,
-                &[
+            expected: Ok(Accepted {
+                ccw: 0x100,
+                code: READ_BACKWARD,
+                area: &[
                     Piece {
                         first: 0x1001,
                         size: 2,
@@ -450,7 +514,7 @@ pub const RULE_9: Section = Section {
                         size: 2,
                     },
                 ],
-            ),
+            }),
         },
         Row {
             name: "backward in force, words 1001 and 1000",
@@ -462,7 +526,11 @@ pub const RULE_9: Section = Section {
                 Entry::Word(0x204, 0x1000),
             ],
             place: At::InForce(0x100, READ_BACKWARD),
-            expected: Expected::Refused(9, 0x204, 0x100),
+            expected: Err(Refused {
+                rule: 9,
+                names: 0x204,
+                counts_from: 0x100,
+            }),
         },
         Row {
             name: "rule 9 before rule 10: words 7FE and 2001",
@@ -474,7 +542,11 @@ pub const RULE_9: Section = Section {
                 Entry::Word(0x204, 0x2001),
             ],
             place: At::First(0x100),
-            expected: Expected::Refused(9, 0x204, 0x100),
+            expected: Err(Refused {
+                rule: 9,
+                names: 0x204,
+                counts_from: 0x100,
+            }),
         },
         Row {
             name: "the first word before the second: words 27FE and 1001",
@@ -486,7 +558,11 @@ pub const RULE_9: Section = Section {
                 Entry::Word(0x204, 0x1001),
             ],
             place: At::First(0x100),
-            expected: Expected::Refused(10, 0x27FE, 0x100),
+            expected: Err(Refused {
+                rule: 10,
+                names: 0x27FE,
+                counts_from: 0x100,
+            }),
         },
     ],
 };

@@ -1,5 +1,5 @@
 use super::{BOTH, ONE, READ, TIC, WRITE, ZERO};
-use crate::row::{At, Entry, Expected, Row, Section};
+use crate::row::{Accepted, At, Entry, Refused, Row, Section};
 use rules::pieces::Piece;
 
 pub const RULE_1: Section = Section {
@@ -12,14 +12,14 @@ pub const RULE_1: Section = Section {
             length: 0x2000,
             contents: &[Entry::Ccw(0x100, READ, 0x00, 1, 0x200)],
             place: At::First(0x100),
-            expected: Expected::Accepted(
-                0x100,
-                READ,
-                &[Piece {
+            expected: Ok(Accepted {
+                ccw: 0x100,
+                code: READ,
+                area: &[Piece {
                     first: 0x200,
                     size: 1,
                 }],
-            ),
+            }),
         },
         Row {
             name: "start at 101",
@@ -27,7 +27,11 @@ pub const RULE_1: Section = Section {
             length: 0x2000,
             contents: &[Entry::Ccw(0x101, READ, 0x00, 1, 0x200)],
             place: At::First(0x101),
-            expected: Expected::Refused(1, 0x101, 0x101),
+            expected: Err(Refused {
+                rule: 1,
+                names: 0x101,
+                counts_from: 0x101,
+            }),
         },
         Row {
             name: "start at 104",
@@ -35,7 +39,11 @@ pub const RULE_1: Section = Section {
             length: 0x2000,
             contents: &[Entry::Ccw(0x104, READ, 0x00, 1, 0x200)],
             place: At::First(0x104),
-            expected: Expected::Refused(1, 0x104, 0x104),
+            expected: Err(Refused {
+                rule: 1,
+                names: 0x104,
+                counts_from: 0x104,
+            }),
         },
         Row {
             name: "TIC to 100",
@@ -46,14 +54,14 @@ pub const RULE_1: Section = Section {
                 Entry::Tic(0x108, 0x100),
             ],
             place: At::Later(0x108),
-            expected: Expected::Accepted(
-                0x100,
-                READ,
-                &[Piece {
+            expected: Ok(Accepted {
+                ccw: 0x100,
+                code: READ,
+                area: &[Piece {
                     first: 0x200,
                     size: 1,
                 }],
-            ),
+            }),
         },
         Row {
             name: "TIC to 104",
@@ -64,7 +72,11 @@ pub const RULE_1: Section = Section {
                 Entry::Tic(0x110, 0x104),
             ],
             place: At::Later(0x110),
-            expected: Expected::Refused(1, 0x104, 0x104),
+            expected: Err(Refused {
+                rule: 1,
+                names: 0x104,
+                counts_from: 0x104,
+            }),
         },
         Row {
             name: "rule 1 before rule 2: start at 2004, behind the end",
@@ -72,7 +84,11 @@ pub const RULE_1: Section = Section {
             length: 0x2000,
             contents: &[],
             place: At::First(0x2004),
-            expected: Expected::Refused(1, 0x2004, 0x2004),
+            expected: Err(Refused {
+                rule: 1,
+                names: 0x2004,
+                counts_from: 0x2004,
+            }),
         },
     ],
 };
@@ -87,14 +103,14 @@ pub const RULE_2: Section = Section {
             length: 0x200,
             contents: &[Entry::Ccw(0x1F8, READ, 0x00, 1, 0x100)],
             place: At::First(0x1F8),
-            expected: Expected::Accepted(
-                0x1F8,
-                READ,
-                &[Piece {
+            expected: Ok(Accepted {
+                ccw: 0x1F8,
+                code: READ,
+                area: &[Piece {
                     first: 0x100,
                     size: 1,
                 }],
-            ),
+            }),
         },
         Row {
             name: "storage 1 byte shorter",
@@ -102,7 +118,11 @@ pub const RULE_2: Section = Section {
             length: 0x1FF,
             contents: &[Entry::Ccw(0x1F8, READ, 0x00, 1, 0x100)],
             place: At::First(0x1F8),
-            expected: Expected::Refused(2, 0x1F8, 0x1F8),
+            expected: Err(Refused {
+                rule: 2,
+                names: 0x1F8,
+                counts_from: 0x1F8,
+            }),
         },
         Row {
             name: "at the end of storage",
@@ -110,7 +130,11 @@ pub const RULE_2: Section = Section {
             length: 0x200,
             contents: &[],
             place: At::First(0x200),
-            expected: Expected::Refused(2, 0x200, 0x200),
+            expected: Err(Refused {
+                rule: 2,
+                names: 0x200,
+                counts_from: 0x200,
+            }),
         },
         Row {
             name: "TIC to the last 8 bytes of storage",
@@ -121,14 +145,14 @@ pub const RULE_2: Section = Section {
                 Entry::Ccw(0x1F8, READ, 0x00, 1, 0x100),
             ],
             place: At::Later(0x108),
-            expected: Expected::Accepted(
-                0x1F8,
-                READ,
-                &[Piece {
+            expected: Ok(Accepted {
+                ccw: 0x1F8,
+                code: READ,
+                area: &[Piece {
                     first: 0x100,
                     size: 1,
                 }],
-            ),
+            }),
         },
         Row {
             name: "the same TIC, storage 1 byte shorter",
@@ -139,7 +163,11 @@ pub const RULE_2: Section = Section {
                 Entry::Ccw(0x1F8, READ, 0x00, 1, 0x100),
             ],
             place: At::Later(0x108),
-            expected: Expected::Refused(2, 0x1F8, 0x1F8),
+            expected: Err(Refused {
+                rule: 2,
+                names: 0x1F8,
+                counts_from: 0x1F8,
+            }),
         },
         Row {
             name: "a storage of 8 bytes",
@@ -147,14 +175,14 @@ pub const RULE_2: Section = Section {
             length: 0x08,
             contents: &[Entry::Ccw(0x00, READ, 0x00, 1, 0x00)],
             place: At::First(0x00),
-            expected: Expected::Accepted(
-                0x00,
-                READ,
-                &[Piece {
+            expected: Ok(Accepted {
+                ccw: 0x00,
+                code: READ,
+                area: &[Piece {
                     first: 0x00,
                     size: 1,
                 }],
-            ),
+            }),
         },
         Row {
             name: "a storage of 7 bytes",
@@ -162,7 +190,11 @@ pub const RULE_2: Section = Section {
             length: 0x07,
             contents: &[Entry::Ccw(0x00, READ, 0x00, 1, 0x00)],
             place: At::First(0x00),
-            expected: Expected::Refused(2, 0x00, 0x00),
+            expected: Err(Refused {
+                rule: 2,
+                names: 0x00,
+                counts_from: 0x00,
+            }),
         },
         Row {
             name: "an empty storage",
@@ -170,7 +202,11 @@ pub const RULE_2: Section = Section {
             length: 0x00,
             contents: &[],
             place: At::First(0x00),
-            expected: Expected::Refused(2, 0x00, 0x00),
+            expected: Err(Refused {
+                rule: 2,
+                names: 0x00,
+                counts_from: 0x00,
+            }),
         },
         Row {
             name: "start at the highest multiple of 8",
@@ -178,7 +214,11 @@ pub const RULE_2: Section = Section {
             length: 0x2000,
             contents: &[],
             place: At::First(0xFFFFFFF8),
-            expected: Expected::Refused(2, 0xFFFFFFF8, 0xFFFFFFF8),
+            expected: Err(Refused {
+                rule: 2,
+                names: 0xFFFFFFF8,
+                counts_from: 0xFFFFFFF8,
+            }),
         },
         Row {
             name: "TIC to the highest multiple of 8",
@@ -186,7 +226,11 @@ pub const RULE_2: Section = Section {
             length: 0x2000,
             contents: &[Entry::Tic(0x108, 0xFFFFF8)],
             place: At::Later(0x108),
-            expected: Expected::Refused(2, 0xFFFFF8, 0xFFFFF8),
+            expected: Err(Refused {
+                rule: 2,
+                names: 0xFFFFF8,
+                counts_from: 0xFFFFF8,
+            }),
         },
         Row {
             name: "TIC to the highest multiple of 8",
@@ -194,7 +238,11 @@ pub const RULE_2: Section = Section {
             length: 0x2000,
             contents: &[Entry::Tic(0x108, 0xFFFFFFF8)],
             place: At::Later(0x108),
-            expected: Expected::Refused(2, 0xFFFFFFF8, 0xFFFFFFF8),
+            expected: Err(Refused {
+                rule: 2,
+                names: 0xFFFFFFF8,
+                counts_from: 0xFFFFFFF8,
+            }),
         },
     ],
 };
@@ -212,14 +260,14 @@ pub const RULE_3: Section = Section {
                 Entry::Tic(0x108, 0x100),
             ],
             place: At::Later(0x108),
-            expected: Expected::Accepted(
-                0x100,
-                READ,
-                &[Piece {
+            expected: Ok(Accepted {
+                ccw: 0x100,
+                code: READ,
+                area: &[Piece {
                     first: 0x200,
                     size: 1,
                 }],
-            ),
+            }),
         },
         Row {
             name: "the same TIC as the first place",
@@ -230,7 +278,11 @@ pub const RULE_3: Section = Section {
                 Entry::Tic(0x108, 0x100),
             ],
             place: At::First(0x108),
-            expected: Expected::Refused(3, 0x108, 0x108),
+            expected: Err(Refused {
+                rule: 3,
+                names: 0x108,
+                counts_from: 0x108,
+            }),
         },
         Row {
             name: "TIC inside a data chain",
@@ -241,14 +293,14 @@ pub const RULE_3: Section = Section {
                 Entry::Tic(0x108, 0x100),
             ],
             place: At::InForce(0x108, READ),
-            expected: Expected::Accepted(
-                0x100,
-                READ,
-                &[Piece {
+            expected: Ok(Accepted {
+                ccw: 0x100,
+                code: READ,
+                area: &[Piece {
                     first: 0x200,
                     size: 1,
                 }],
-            ),
+            }),
         },
         Row {
             name: "TIC to a TIC",
@@ -260,7 +312,11 @@ pub const RULE_3: Section = Section {
                 Entry::Tic(0x110, 0x100),
             ],
             place: At::Later(0x108),
-            expected: Expected::Refused(3, 0x110, 0x110),
+            expected: Err(Refused {
+                rule: 3,
+                names: 0x110,
+                counts_from: 0x110,
+            }),
         },
         Row {
             name: "TIC to a TIC inside a data chain",
@@ -272,7 +328,11 @@ pub const RULE_3: Section = Section {
                 Entry::Tic(0x110, 0x100),
             ],
             place: At::InForce(0x108, READ),
-            expected: Expected::Refused(3, 0x110, 0x110),
+            expected: Err(Refused {
+                rule: 3,
+                names: 0x110,
+                counts_from: 0x110,
+            }),
         },
         Row {
             name: "TIC to itself",
@@ -280,7 +340,11 @@ pub const RULE_3: Section = Section {
             length: 0x2000,
             contents: &[Entry::Tic(0x108, 0x108)],
             place: At::Later(0x108),
-            expected: Expected::Refused(3, 0x108, 0x108),
+            expected: Err(Refused {
+                rule: 3,
+                names: 0x108,
+                counts_from: 0x108,
+            }),
         },
         Row {
             name: "TIC to a TIC whose own target is no multiple of 8",
@@ -288,7 +352,11 @@ pub const RULE_3: Section = Section {
             length: 0x2000,
             contents: &[Entry::Tic(0x108, 0x110), Entry::Tic(0x110, 0x104)],
             place: At::Later(0x108),
-            expected: Expected::Refused(3, 0x110, 0x110),
+            expected: Err(Refused {
+                rule: 3,
+                names: 0x110,
+                counts_from: 0x110,
+            }),
         },
         Row {
             name: "code 58, flags FF and count 65535, first place",
@@ -296,7 +364,11 @@ pub const RULE_3: Section = Section {
             length: 0x2000,
             contents: &[Entry::Ccw(0x100, 0x58, 0xFF, 65535, 0x200)],
             place: At::First(0x100),
-            expected: Expected::Refused(3, 0x100, 0x100),
+            expected: Err(Refused {
+                rule: 3,
+                names: 0x100,
+                counts_from: 0x100,
+            }),
         },
         Row {
             name: "TIC to a code 18",
@@ -308,7 +380,11 @@ pub const RULE_3: Section = Section {
                 Entry::Ccw(0x110, 0x18, 0x00, 0, 0x100),
             ],
             place: At::Later(0x108),
-            expected: Expected::Refused(3, 0x110, 0x110),
+            expected: Err(Refused {
+                rule: 3,
+                names: 0x110,
+                counts_from: 0x110,
+            }),
         },
         Row {
             name: "rule 3 before rule 5: TIC with a flag, first place",
@@ -316,7 +392,11 @@ pub const RULE_3: Section = Section {
             length: 0x2000,
             contents: &[Entry::Ccw(0x100, TIC, 0x20, 0, 0x100)],
             place: At::First(0x100),
-            expected: Expected::Refused(3, 0x100, 0x100),
+            expected: Err(Refused {
+                rule: 3,
+                names: 0x100,
+                counts_from: 0x100,
+            }),
         },
         Row {
             name: "rule 3 before rule 5: TIC to a TIC with a flag",
@@ -327,7 +407,11 @@ pub const RULE_3: Section = Section {
                 Entry::Ccw(0x110, TIC, 0x20, 0, 0x100),
             ],
             place: At::Later(0x108),
-            expected: Expected::Refused(3, 0x110, 0x110),
+            expected: Err(Refused {
+                rule: 3,
+                names: 0x110,
+                counts_from: 0x110,
+            }),
         },
     ],
 };

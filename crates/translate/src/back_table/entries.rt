@@ -6,7 +6,7 @@ ghost use Rattle.translate.specs.Fitting.{Below};
 
 use super::BackTable;
 use map::address::GuestAddress;
-use walk::cells::Cells;
+use walk::cells::{Cells, MOST_PLACES};
 
 impl BackTable {
     pub(crate) fn new() -> BackTable
@@ -14,7 +14,7 @@ impl BackTable {
         ensures len { result.len ≡ 0 }
     {
         BackTable {
-            addresses: [0; 64],
+            addresses: [0; MOST_PLACES],
             len: 0,
         }
     }
@@ -29,7 +29,7 @@ impl BackTable {
     }
 
     // The guest's CCW address for the host's in a status word: 8 above the CCW of the cell that the host's follows, 0 if
-    // it follows no cell.
+    // it follows no cell. A number, not an `Option`: a status word has 0 where there is no address.
     pub fn guest_ccw_address(&self, host: u32) -> u32
         ensures { result ≡ guest_ccw (addresses_in self.now) host }
     {
@@ -58,6 +58,7 @@ pub(crate) fn back_table_of(cells: &Cells) -> BackTable
     ensures { addresses_in result ≡ ccw_addresses (cells_of cells.now) }
 {
     let mut back = BackTable::new();
+    // Tried without `iter()`: that iterator's contract does not say that there are at most 64.
     for taken in cells.iter() {
         back.push(taken.ccw.address);
     }

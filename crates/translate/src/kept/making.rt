@@ -24,6 +24,7 @@ impl Kept {
         }
     }
 
+    // What is kept of a program. Two arguments and a `requires`, so no `From`.
     pub(crate) fn of(cells: &Cells, own: OwnBytes) -> Kept
         requires { Below (2 ^ 31) (ccw_addresses (cells_of cells.now)) }
         ensures { keeping_in result ≡ record { back = ccw_addresses (cells_of cells.now); own = extents_in own; pages = data_pages (cells_of cells.now) } }

@@ -106,6 +106,7 @@ pub fn own_bytes_of(cells: &Cells) -> OwnBytes
     ensures { extents_in result ≡ extents_of (cells_of cells.now) }
 {
     let mut own = OwnBytes::none();
+    // Tried without `iter()`: that iterator's contract does not say that there are at most 64.
     for taken in cells.iter() {
         own.push_cell(taken);
     }

@@ -1,10 +1,7 @@
 use Rattle.std.proofs.Common.{◌≡◌, not, is_some, sym, ◌∙◌, rules}
 use Rattle.walk.specs.OwnBytes.{extents_in, touched}
-use Rattle.agree.proofs.Staying.{stores_agree, store_keeps}
+use Rattle.agree.proofs.Staying.{store_keeps}
 use Rattle.agree.proofs.meanwhile.may_store.Goals as goal
-
-pub returns-clause-agree : goal.returns-clause-agree
-returns-clause-agree g c = stores_agree _ _ (g.met.M.Map.lawful _) _
 
 pub returns-clause-keeps : goal.returns-clause-keeps
 returns-clause-keeps g c =

@@ -1,4 +1,4 @@
-use Rattle.std.proofs.Common.{◌≡◌, ℕ, ◌<◌, false, ◌||◌, map, length, get_or, drop}
+use Rattle.std.proofs.Common.{◌≡◌, ℕ, ◌<◌, false, ◌||◌, map, length, get_or}
 use Rattle.rules.specs.TakingUp.{cell_of}
 use Rattle.walk.specs.Walks.{cells_of}
 use Rattle.translate.specs.Translations.{data_in}
@@ -7,5 +7,6 @@ use Rattle.translate.proofs.data_pages.data_pages_of.Given as goal
 -- what is marked, with the cells still to come, is all
 abbrev pub invariant-loop-taken : goal.invariant-loop-taken
 invariant-loop-taken l =
-    ((page : ℕ) → page < 128 → get_or l.pages.flags page false || data_in (map cell_of (drop l.taken-index l.cells.items)) page ≡ data_in (cells_of l.cells) page)
+    let rest = l.taken-iterator.rest.now in
+    ((page : ℕ) → page < 128 → get_or l.pages.flags page false || data_in (map cell_of rest) page ≡ data_in (cells_of l.cells) page)
     × (length l.pages.flags ≡ 128)

@@ -1,9 +1,9 @@
-use Rattle.std.proofs.Common.{◌+◌, ◌*◌, List, map, length, drop, ap, ◌∙◌, subst, arith}
+use Rattle.std.proofs.Common.{◌*◌, List, map, length, ap, ◌∙◌, subst, arith}
+use Rattle.std.proofs.lemmas.List.{nil_from_length}
 use Rattle.format.specs.Laying.{put_at}
 use Rattle.rules.specs.declared.place.Taken.{Taken}
 use Rattle.rules.specs.TakingUp.{cell_of}
 use Rattle.map.specs.Places.{end_of, place_of}
-use Rattle.walk.proofs.Trails.{entry_at, entry_none}
 use Rattle.translate.specs.Frames.{words_of}
 use Rattle.translate.specs.Fitting.{Below}
 use Rattle.translate.proofs.Puts.{host_words, list_turn, words_end, words_more, words_none, list_below}
@@ -11,29 +11,25 @@ use Rattle.translate.proofs.frame.write_lists.Goals as goal
 
 pub write_list-requires : goal.write_list-requires
 write_list-requires g c =
-    let xs = c.args.cells.now.items in
-    let i = c.loop-taken.taken-index in
-    let t = cell_of c.taken-item.result in
-    let rest = map cell_of (drop (i + 1) xs) in
+    let t = cell_of c.in-Some.taken.now in
+    let rest = map cell_of c.next.new.self.rest.now in
     let inv = c.loop-taken.invariant in
     let limit = end_of (g.M.Map.frames c.args.map.now) in
-    let next = entry_at (λ (l : List Taken). words_of (map cell_of l)) xs c.deref-taken-items.result.now i c.taken-item.result c.deref-taken-items.ensures.0 c.loop-taken-test.true c.taken-item.is in
+    let next = ap (λ (l : List Taken). words_of (map cell_of l)) c.in-Some.ensures.steps in
     let many = ap length next ∙ words_more t rest in
     (omega (arith, many, inv.1, c.requires.0, c.loop-taken.auto.part), (list_below limit t rest (subst (Below limit) next inv.2)).0)
 
 pub loop-taken-preserved : goal.loop-taken-preserved
 loop-taken-preserved g c =
-    let xs = c.args.cells.now.items in
-    let i = c.loop-taken.taken-index in
     let words = c.loop-taken.words in
     let part = c.loop-taken.part in
-    let t = cell_of c.taken-item.result in
-    let rest = map cell_of (drop (i + 1) xs) in
+    let t = cell_of c.in-Some.taken.now in
+    let rest = map cell_of c.next.new.self.rest.now in
     let inv = c.loop-taken.invariant in
     let fs = g.M.Map.frames c.args.map.now in
     let limit = end_of fs in
-    let next = entry_at (λ (l : List Taken). map cell_of l) xs c.deref-taken-items.result.now i c.taken-item.result c.deref-taken-items.ensures.0 c.loop-taken-test.true c.taken-item.is in
-    let whole = put_at 0 (host_words (place_of fs) (words_of (map cell_of xs))) c.args.part.now in
+    let next = ap (λ (l : List Taken). map cell_of l) c.in-Some.ensures.steps in
+    let whole = put_at 0 (host_words (place_of fs) (words_of (map cell_of c.args.cells.now.items))) c.args.part.now in
     let left = ap words_of next in
     let many = ap length left ∙ words_more t rest in (
       list_turn (place_of fs) words c.len-words.result t _ rest part c.write_list.new.part whole (omega (arith, inv.1, c.requires.0, c.loop-taken.auto.part)) c.write_list.ensures c.len-words.ensures.value next inv.0,
@@ -44,7 +40,7 @@ loop-taken-preserved g c =
 pub returns : goal.returns
 returns g c =
     let place = place_of (g.M.Map.frames c.args.map.now) in
-    let none = entry_none (λ (l : List Taken). words_of (map cell_of l)) c.args.cells.now.items c.deref-taken-items.result.now c.loop-taken.taken-index c.deref-taken-items.ensures.0 c.loop-taken-test.false ∙ words_none in
+    let none = ap (λ (l : List Taken). words_of (map cell_of l)) (nil_from_length _ c.in-None.ensures.steps.0) ∙ words_none in
     let inv = c.loop-taken.invariant in
     let whole = put_at 0 (host_words place (words_of (map cell_of c.args.cells.now.items))) c.args.part.now in
     record {

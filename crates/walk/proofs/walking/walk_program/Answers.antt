@@ -1,24 +1,51 @@
-use Rattle.std.proofs.Common.{◌≡◌, ℕ, true, List, [], IfOk, None, Ok, Err, Result, sym}
+use Rattle.std.proofs.Common.{◌≡◌, true, [], None, Ok, sym, ap, ◌∙◌}
+use Rattle.std.proofs.lemmas.Result.{err_from_is_err_and}
 use Rattle.format.specs.Bytes.{reader}
-use Rattle.rules.specs.declared.place.Broken.{Broken}
-use Rattle.rules.specs.TakingUp.{answered, reach}
-use Rattle.walk.specs.declared.cells.Walked.{Walked}
-use Rattle.walk.specs.SoundTrails.{SoundTrail, OwnBytesAlone}
-use Rattle.walk.specs.Walks.{trail_of, walk}
+use Rattle.rules.specs.TakingUp.{reach, cell_of}
+use Rattle.walk.specs.Walks.{Trail, cells_of, seen_of, walk}
+use Rattle.walk.proofs.Trails.{place_on, place_last, place_met, place_off, behind_some, behind_none}
 use Rattle.walk.proofs.OwnAlone.{own_bytes_alone}
 use Rattle.walk.proofs.SoundTrails.{sound_trail}
 use Rattle.walk.proofs.walking.walk_program.Goals as goal
+use Rattle.walk.proofs.walking.walk_program.Goals.{in-Met, in-Fresh+in-None}
 
-answer_sound : (bytes : List ℕ) (start : ℕ) (r : Result Walked Broken) → answered trail_of r ≡ walk 65 (reach bytes) (reader bytes) [] 0 start true None → IfOk r (λ w. SoundTrail (reach bytes) (reader bytes) start (trail_of w))
-answer_sound bytes start (Ok w) e = sound_trail (reach bytes) (reader bytes) (trail_of w) start (sym e)
-answer_sound bytes start (Err x) e = tt
+pub returns-in_err-index-clause-is : goal.returns-in_err-index-clause-is
+returns-in_err-index-clause-is g c =
+    let st = g.S.Storage.bytes c.args.storage.now in
+    let visited = c.walk.visited in
+    let p = c.walk.place in
+    let r = err_from_is_err_and c.from_residual.result c.from_residual.ensures.1 in
+    rw (r.1, r.2) (
+    sym (place_off (reach st) (reader st) (cells_of visited.cells) visited.words p.address p.first p.command visited.few c.in_err-index.field-0.0 c.in_err-index.ensures.is)
+    ∙ c.walk.invariant)
 
-answer_alone : (bytes : List ℕ) (start : ℕ) (r : Result Walked Broken) → answered trail_of r ≡ walk 65 (reach bytes) (reader bytes) [] 0 start true None → IfOk r (λ w. OwnBytesAlone bytes start (trail_of w))
-answer_alone bytes start (Ok w) e = own_bytes_alone bytes start (trail_of w) (sym e)
-answer_alone bytes start (Err x) e = tt
+pub walk-preserved : goal.walk-preserved
+walk-preserved g c =
+    let st = g.S.Storage.bytes c.args.storage.now in
+    let visited = c.walk.visited in
+    let p = c.walk.place in
+    let t = cell_of c.in-Fresh.taken in
+    let next = behind_some t c.in-Some.behind (sym c.in-Some.is ∙ c.place_behind-next.ensures) in
+    rw (next.1, c.push.ensures.cells, c.push.ensures.words) (
+    sym (place_on (reach st) (reader st) (cells_of visited.cells) visited.words p.address p.first p.command visited.few t (ap (λ v. Ok (seen_of v)) (sym c.in-Fresh.is) ∙ c.in_ok-index.ensures.is) next.0)
+    ∙ c.walk.invariant)
 
 pub returns : goal.returns
 returns g c =
-    let is = c.walk_places.ensures in
-    let st = g.S.Storage.bytes c.args.storage.now in
-    record { is = is; sound = answer_sound st c.args.start c.walk_places.result is; alone = answer_alone st c.args.start c.walk_places.result is }
+    let bytes = g.S.Storage.bytes c.args.storage.now in
+    let start = c.args.start in
+    let visited = c.walk.visited in
+    let p = c.walk.place in
+    let w : Trail = record { cells = cells_of c.match-branch-2.visited.cells; closes = c.match-branch-2.closes } in
+    let is : Ok w ≡ walk 65 (reach bytes) (reader bytes) [] 0 start true None =
+    elim c.match-branch-2.branch [
+      | in-Met w ↦ rw (w.visited-is, w.closes-is) (
+          sym (place_met (reach bytes) (reader bytes) (cells_of visited.cells) visited.words p.address p.first p.command visited.few w.in-Met.index (ap (λ v. Ok (seen_of v)) (sym w.in-Met.is) ∙ c.in_ok-index.ensures.is))
+          ∙ c.walk.invariant)
+      | in-Fresh+in-None w ↦
+          let t = cell_of w.in-Fresh.taken in
+          rw (w.visited-is, w.closes-is, w.push.ensures.cells) (
+          sym (place_last (reach bytes) (reader bytes) (cells_of visited.cells) visited.words p.address p.first p.command visited.few t (ap (λ v. Ok (seen_of v)) (sym w.in-Fresh.is) ∙ c.in_ok-index.ensures.is) (behind_none t (sym w.in-None.is ∙ w.place_behind-next.ensures)))
+          ∙ c.walk.invariant)
+    ] in
+    record { is = is; sound = sound_trail (reach bytes) (reader bytes) w start (sym is); alone = own_bytes_alone bytes start w (sym is) }

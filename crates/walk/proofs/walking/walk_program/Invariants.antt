@@ -3,7 +3,7 @@ use Rattle.format.specs.Bytes.{reader}
 use Rattle.rules.specs.TakingUp.{reach}
 use Rattle.walk.specs.Walks.{cells_of, walk}
 use Rattle.walk.proofs.Trails.{whole}
-use Rattle.walk.proofs.walking.walk_places.Given as goal
+use Rattle.walk.proofs.walking.walk_program.Given as goal
 
 abbrev pub invariant-walk : goal.invariant-walk
 invariant-walk g l =

@@ -7,8 +7,8 @@ use device::interface::Device;
 use map::interface::Map;
 use walk::own_bytes::OwnBytes;
 
-// `device` is named by the clauses alone, and so is the `map` of `may_store`: they say of which kind of device and of which map
-// a clause speaks.
+// `device` is named by the clauses alone, and so is the `map` of `may_store`: they say of which kind of device and of
+// which map a clause speaks.
 
 // Whether a guest may store these bytes while its program runs: none of them is the program's own.
 #[tactic(auto, using(crate::proofs::Staying::stores_agree))]

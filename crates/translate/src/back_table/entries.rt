@@ -58,7 +58,7 @@ pub(crate) fn back_table_of(cells: &Cells) -> BackTable
     ensures { addresses_in result ≡ ccw_addresses (cells_of cells.now) }
 {
     let mut back = BackTable::new();
-    // Tried without `iter()`: that iterator's contract does not say that there are at most 64.
+    // By `iter()`: the vector's own iterator does not say that there are at most 64 (see `own_bytes_of`).
     for taken in cells.iter() {
         back.push(taken.ccw.address);
     }

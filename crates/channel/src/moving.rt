@@ -8,7 +8,8 @@ use device::interface::Device;
 use format::laying::put_at;
 use rules::pieces::{BLOCK, Piece, Pieces};
 
-// Storage, piece and device stay parameters here for the reason that stands in step.rt.
+// Storage, piece and device stay parameters here for the reason that stands in step.rt. The three reads say the same of count and
+// device, since `read_piece` is one of the other two by its direction: a name for the two clauses would be no plainer.
 
 // One piece upward, straight into storage.
 fn read_upward<D: Device>(storage: &mut [u8], piece: Piece, device: &mut D) -> usize

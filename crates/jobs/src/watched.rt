@@ -10,7 +10,7 @@ pub struct Notes {
     pub ended: Option<u8>,
 }
 
-// A device that hands every call on to another, and keeps notes of them.
+// A device that hands every call on to another, and keeps notes of them. Like a device it is neither printed nor compared.
 #[derive(Drop)]
 pub struct Watched<D> {
     pub device: D,

@@ -11,7 +11,7 @@ enum Sensing {
     Read,
 }
 
-// A device: a model and a sense byte.
+// A device: a model and a sense byte. Nothing prints or compares a whole device, so it derives neither.
 #[derive(Drop)]
 pub struct Unit<M> {
     model: M,

@@ -65,6 +65,7 @@ impl DeviceModel for DiskModel {
 
     ghost state = { model_meaning };
 
+    // Each model has this line over a phase of its own: there is no code to share.
     fn is_open(&self) -> bool {
         self.phase != Phase::Idle
     }

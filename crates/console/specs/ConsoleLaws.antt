@@ -8,11 +8,11 @@ use Rattle.device.specs.declared.interface.Begun.{Begun}
 use Rattle.device.specs.declared.interface.Begun.TheVariants.{Open}
 use Rattle.device.specs.Machine.{shut, taking, due, room, less_given, less_taken}
 use Rattle.unit.specs.declared.model.Fault.{Fault}
-use Rattle.unit.specs.Core.{unknown_command}
+use Rattle.unit.specs.Core.{unknown_command, nothing_left}
 use Rattle.unit.specs.Lemmas.{class_at, drop_past, take_two}
 use Rattle.unit.specs.CoreLaws.{CoreLaws, OpenedOwn}
 use Rattle.console.specs.ConsoleState.{ConsoleState, Command, none, printing, reading_line}
-use Rattle.console.specs.ConsoleMachine.{console_core, with_open, with_paper, paper_left, nothing_left, begin_write, begin_read, begin_own, pending_during, given_during, accepted_during}
+use Rattle.console.specs.ConsoleMachine.{console_core, with_open, with_paper, paper_left, begin_write, begin_read, begin_own, pending_during, given_during, accepted_during}
 
 shut_is_none : (c : Command) (printed : ℕ) → pending_during c printed ≡ shut → c ≡ none
 shut_is_none none printed h = refl

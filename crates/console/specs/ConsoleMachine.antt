@@ -5,7 +5,7 @@ use Rattle.device.specs.declared.interface.Begun.{Begun}
 use Rattle.device.specs.declared.interface.Begun.TheVariants.{Open}
 use Rattle.device.specs.Machine.{Machine, Pending, shut, giving, taking}
 use Rattle.unit.specs.declared.model.Fault.{Fault}
-use Rattle.unit.specs.Core.{Core, unknown_command}
+use Rattle.unit.specs.Core.{Core, unknown_command, nothing_left}
 use Rattle.unit.specs.UnitMachine.{UnitState, unit_machine, unit_at_first}
 use Rattle.console.specs.ConsoleState.{ConsoleState, Command, none, printing, reading_line}
 
@@ -18,10 +18,6 @@ with_paper printed s = record { paper = printed; line = s.line; command = s.comm
 -- how many bytes of paper are left once so many are printed
 abbrev pub paper_left : ℕ → ℕ
 paper_left printed = 2048 - printed
-
--- no paper or no line is left: status 0E and sense 40
-abbrev pub nothing_left : Fault
-nothing_left = record { status = 0x0E; sense = 0x40 }
 
 -- 09: opens for as much as there is paper left; with none left, status 0E and sense 40
 abbrev pub begin_write : ConsoleState → Result Begun Fault × ConsoleState

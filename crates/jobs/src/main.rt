@@ -9,6 +9,8 @@ mod names;
 mod programs;
 mod report;
 mod running;
+#[cfg(test)]
+mod tests;
 mod trace;
 mod units;
 mod watched;

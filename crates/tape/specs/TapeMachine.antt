@@ -5,7 +5,7 @@ use Rattle.device.specs.declared.interface.Begun.{Begun}
 use Rattle.device.specs.declared.interface.Begun.TheVariants.{Immediate, Open}
 use Rattle.device.specs.Machine.{Machine, Pending, shut, giving, taking}
 use Rattle.unit.specs.declared.model.Fault.{Fault}
-use Rattle.unit.specs.Core.{Core, unknown_command}
+use Rattle.unit.specs.Core.{Core, unknown_command, nothing_left}
 use Rattle.unit.specs.UnitMachine.{UnitState, unit_machine, unit_at_first}
 use Rattle.tape.specs.TapeState.{TapeState, Command, none, writing, reading, reading_backward}
 
@@ -24,11 +24,7 @@ room_after stored = min 4096 (8192 - bytes_in stored)
 abbrev pub has_room : List (List ℕ) → Bool
 has_room stored = nat_lt (length stored) 64 && nat_lt (bytes_in stored) 8192
 
--- no block or no byte is left: status 0E and sense 40
-abbrev pub nothing_left : Fault
-nothing_left = record { status = 0x0E; sense = 0x40 }
-
--- and nothing changes
+-- no block or no byte is left, and nothing changes
 abbrev pub refuse : TapeState → Result Begun Fault × TapeState
 refuse s = (Err nothing_left, s)
 

@@ -1,7 +1,7 @@
 -- What a model means: a device without its sense byte. A reader must believe: a model is a state, what its
 -- open command has still to move, and four fixed functions of the state, of which the start and the end of
 -- a command may each be a fault, with a status and a sense byte to set; a code that no model knows is the fault of
--- status 02 with sense 80.
+-- status 02 with sense 80, and that nothing is left the fault of status 0E with sense 40.
 use Rattle.std.specs.Prelude.{ℕ, Bool, true, false, List, Result}
 use Rattle.device.specs.declared.interface.Begun.{Begun}
 use Rattle.device.specs.Machine.{Pending, shut, giving, taking}
@@ -23,3 +23,7 @@ is_open (taking n) = true
 -- the answer to a code that is no command of the device: status 02, and sense 80
 abbrev pub unknown_command : Fault
 unknown_command = record { status = 0x02; sense = 0x80 }
+
+-- the answer to a command that needs paper, a line, a byte or a block where none is left: status 0E, and sense 40
+abbrev pub nothing_left : Fault
+nothing_left = record { status = 0x0E; sense = 0x40 }

@@ -93,12 +93,13 @@ module _ (fs : List ℕ) (free : ℕ → Bool) (law : Lawful fs free) where
     unfolding StepsKeep
     all_steps_keep start w host direct k c = steps_keep fs free law start w m k host direct c
 
-    together_by : (host direct host' direct' x y : World m) → host' ≡ x → direct' ≡ y → ((start : ℕ) (w : Trail) → Corresponding m fs free start w host direct → Corresponding m fs free start w x y) → Together m fs free host direct host' direct'
+    -- two worlds that are known to be the outcome
+    pub together_by : (host direct host' direct' x y : World m) → host' ≡ x → direct' ≡ y → ((start : ℕ) (w : Trail) → Corresponding m fs free start w host direct → Corresponding m fs free start w x y) → Together m fs free host direct host' direct'
     unfolding Together
     together_by host direct host' direct' x y p q h start w c =
         subst (λ (z : World m). Corresponding m fs free start w host' z) (sym q) (subst (λ (z : World m). Corresponding m fs free start w z y) (sym p) (h start w c))
 
-    -- two worlds that are known to be the outcome, with the formats of the two programs
+    -- the same, with the formats of the two programs
     pub stepped_together : (f f' : Format) (host direct host' direct' : World m) → f ≡ One → f' ≡ Zero → host' ≡ stepped m f host → direct' ≡ stepped m f' direct → Together m fs free host direct host' direct'
     stepped_together f f' host direct host' direct' a b p q =
         together_by host direct host' direct' _ _ (p ∙ ap (λ x. stepped m x host) a) (q ∙ ap (λ x. stepped m x direct) b) (λ start w c. step_agrees fs free law start w m host direct c)

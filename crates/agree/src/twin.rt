@@ -5,18 +5,17 @@ ghost use Rattle.channel.specs.Steps.{World, started, stepped, advanced, halted,
 ghost use Rattle.agree.specs.Correspondence.{world as whole};
 ghost use Rattle.agree.specs.Agreement.{CellsAgree, StartsAgree, StepsAgree, AdvancesAgree, HaltsAgree, NeverChecked, StepsKeep, Together};
 
+use channel::run::Run;
 use device::interface::Device;
 use format::ccw::Format;
 use map::interface::Map;
 use program::{Program, Progress};
 
-// Two runs of one program: the host's, on the program frame in format 1, and the direct one, on the guest's own bytes in
-// format 0.
+// Where two runs of one program stand: the host's, on the program frame, and the direct one, on the guest's own bytes.
 #[derive(Clone, Copy, Debug, PartialEq, Eq)]
 pub struct Twin {
-    pub host: Program,
-    pub direct: Program,
-    ghost formats: { (host.format ≡ format_one) × (direct.format ≡ format_zero) },
+    pub host: Run,
+    pub direct: Run,
 }
 
 // What up to k CCWs came to on each side.
@@ -32,14 +31,29 @@ impl Twin {
     // program's start address.
     #[tactic(auto, using(crate::proofs::Whole::cells_agree, crate::proofs::Whole::starts_agree))]
     pub fn start<M: Map, D: Device>(map: &M, device: &D, address: u32) -> Twin
-        ensures is { (result.host.run ≡ started 0) × (result.direct.run ≡ started address) }
+        ensures is { (result.host ≡ started 0) × (result.direct ≡ started address) }
         ensures cells { CellsAgree (M.frames map.now) (M.free map.now) }
         ensures agree { StartsAgree D.machine (M.frames map.now) (M.free map.now) }
     {
         Twin {
-            host: Program::start(Format::One, 0),
-            direct: Program::start(Format::Zero, address),
+            host: Program::start(Format::One, 0).run,
+            direct: Program::start(Format::Zero, address).run,
         }
+    }
+
+    // The two as programs: the host's in format 1, the direct one in format 0.
+    fn programs(&self) -> (Program, Program)
+        ensures { result ≡ (record { format = format_one; run = self.now.host }, record { format = format_zero; run = self.now.direct }) }
+    {
+        let host = Program {
+            format: Format::One,
+            run: self.host,
+        };
+        let direct = Program {
+            format: Format::Zero,
+            run: self.direct,
+        };
+        (host, direct)
     }
 
     // One CCW on each side. A side's storage and device stay two parameters: a struct that held both `&mut` would need a
@@ -53,19 +67,24 @@ impl Twin {
         direct: &mut [u8],
         direct_device: &mut D,
     )
-        ensures host { whole D.machine host.new (D.state host_device.new) self.new.host.run
-            ≡ stepped D.machine format_one (whole D.machine host.old (D.state host_device.old) self.old.host.run) }
-        ensures direct { whole D.machine direct.new (D.state direct_device.new) self.new.direct.run
-            ≡ stepped D.machine format_zero (whole D.machine direct.old (D.state direct_device.old) self.old.direct.run) }
+        ensures host { whole D.machine host.new (D.state host_device.new) self.new.host
+            ≡ stepped D.machine format_one (whole D.machine host.old (D.state host_device.old) self.old.host) }
+        ensures direct { whole D.machine direct.new (D.state direct_device.new) self.new.direct
+            ≡ stepped D.machine format_zero (whole D.machine direct.old (D.state direct_device.old) self.old.direct) }
         ensures agree { StepsAgree D.machine (M.frames map.now) (M.free map.now) }
         ensures together { Together D.machine (M.frames map.now) (M.free map.now)
-            (whole D.machine host.old (D.state host_device.old) self.old.host.run)
-            (whole D.machine direct.old (D.state direct_device.old) self.old.direct.run)
-            (whole D.machine host.new (D.state host_device.new) self.new.host.run)
-            (whole D.machine direct.new (D.state direct_device.new) self.new.direct.run) }
+            (whole D.machine host.old (D.state host_device.old) self.old.host)
+            (whole D.machine direct.old (D.state direct_device.old) self.old.direct)
+            (whole D.machine host.new (D.state host_device.new) self.new.host)
+            (whole D.machine direct.new (D.state direct_device.new) self.new.direct) }
     {
-        self.host.step(host, host_device);
-        self.direct.step(direct, direct_device);
+        let (mut on_host, mut on_direct) = self.programs();
+        on_host.step(host, host_device);
+        on_direct.step(direct, direct_device);
+        *self = Twin {
+            host: on_host.run,
+            direct: on_direct.run,
+        };
     }
 
     // Up to `limit` CCWs on each side, or fewer if the program ends.
@@ -80,42 +99,54 @@ impl Twin {
         limit: u64,
     ) -> Progresses
         ensures host { ◌≡◌ {A = ℕ × World D.machine}
-            (result.host.count, whole D.machine host.new (D.state host_device.new) self.new.host.run)
-            (advanced D.machine format_one limit (whole D.machine host.old (D.state host_device.old) self.old.host.run)) }
+            (result.host.count, whole D.machine host.new (D.state host_device.new) self.new.host)
+            (advanced D.machine format_one limit (whole D.machine host.old (D.state host_device.old) self.old.host)) }
         ensures direct { ◌≡◌ {A = ℕ × World D.machine}
-            (result.direct.count, whole D.machine direct.new (D.state direct_device.new) self.new.direct.run)
-            (advanced D.machine format_zero limit (whole D.machine direct.old (D.state direct_device.old) self.old.direct.run)) }
-        ensures ended { (result.host.ended ≡ is_ended self.new.host.run) × (result.direct.ended ≡ is_ended self.new.direct.run) }
+            (result.direct.count, whole D.machine direct.new (D.state direct_device.new) self.new.direct)
+            (advanced D.machine format_zero limit (whole D.machine direct.old (D.state direct_device.old) self.old.direct)) }
+        ensures ended { (result.host.ended ≡ is_ended self.new.host) × (result.direct.ended ≡ is_ended self.new.direct) }
         ensures agree { AdvancesAgree D.machine (M.frames map.now) (M.free map.now) }
         ensures unchecked { NeverChecked D.machine (M.frames map.now) (M.free map.now) }
         ensures keep { StepsKeep D.machine (M.frames map.now) (M.free map.now) }
         ensures together { Together D.machine (M.frames map.now) (M.free map.now)
-            (whole D.machine host.old (D.state host_device.old) self.old.host.run)
-            (whole D.machine direct.old (D.state direct_device.old) self.old.direct.run)
-            (whole D.machine host.new (D.state host_device.new) self.new.host.run)
-            (whole D.machine direct.new (D.state direct_device.new) self.new.direct.run) }
+            (whole D.machine host.old (D.state host_device.old) self.old.host)
+            (whole D.machine direct.old (D.state direct_device.old) self.old.direct)
+            (whole D.machine host.new (D.state host_device.new) self.new.host)
+            (whole D.machine direct.new (D.state direct_device.new) self.new.direct) }
     {
+        let (mut on_host, mut on_direct) = self.programs();
+        let host_progress = on_host.advance(host, host_device, limit);
+        let direct_progress = on_direct.advance(direct, direct_device, limit);
+        *self = Twin {
+            host: on_host.run,
+            direct: on_direct.run,
+        };
         Progresses {
-            host: self.host.advance(host, host_device, limit),
-            direct: self.direct.advance(direct, direct_device, limit),
+            host: host_progress,
+            direct: direct_progress,
         }
     }
 
     // Ends both runs if they have not ended; storage stays.
     #[tactic(auto, using(crate::proofs::Whole::halts_agree, crate::proofs::Whole::halted_together))]
     pub fn halt<M: Map, D: Device>(&mut self, map: &M, host_device: &mut D, direct_device: &mut D)
-        ensures host { (storage : List ℕ) → whole D.machine storage (D.state host_device.new) self.new.host.run
-            ≡ halted D.machine (whole D.machine storage (D.state host_device.old) self.old.host.run) }
-        ensures direct { (storage : List ℕ) → whole D.machine storage (D.state direct_device.new) self.new.direct.run
-            ≡ halted D.machine (whole D.machine storage (D.state direct_device.old) self.old.direct.run) }
+        ensures host { (storage : List ℕ) → whole D.machine storage (D.state host_device.new) self.new.host
+            ≡ halted D.machine (whole D.machine storage (D.state host_device.old) self.old.host) }
+        ensures direct { (storage : List ℕ) → whole D.machine storage (D.state direct_device.new) self.new.direct
+            ≡ halted D.machine (whole D.machine storage (D.state direct_device.old) self.old.direct) }
         ensures agree { HaltsAgree D.machine (M.frames map.now) (M.free map.now) }
         ensures together { (host direct : List ℕ) → Together D.machine (M.frames map.now) (M.free map.now)
-            (whole D.machine host (D.state host_device.old) self.old.host.run)
-            (whole D.machine direct (D.state direct_device.old) self.old.direct.run)
-            (whole D.machine host (D.state host_device.new) self.new.host.run)
-            (whole D.machine direct (D.state direct_device.new) self.new.direct.run) }
+            (whole D.machine host (D.state host_device.old) self.old.host)
+            (whole D.machine direct (D.state direct_device.old) self.old.direct)
+            (whole D.machine host (D.state host_device.new) self.new.host)
+            (whole D.machine direct (D.state direct_device.new) self.new.direct) }
     {
-        self.host.halt(host_device);
-        self.direct.halt(direct_device);
+        let (mut on_host, mut on_direct) = self.programs();
+        on_host.halt(host_device);
+        on_direct.halt(direct_device);
+        *self = Twin {
+            host: on_host.run,
+            direct: on_direct.run,
+        };
     }
 }

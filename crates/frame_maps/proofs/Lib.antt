@@ -1,2 +1,3 @@
 mod Flags
+mod Puts
 mod Runs

@@ -1,27 +1,27 @@
 ghost use Rattle.std.specs.Prelude.{◌≡◌, ℕ, length, Decides, MatchResult};
 ghost use Rattle.map.specs.Law.{Lawful};
 ghost use Rattle.frame_maps.specs.FrameSets.{among, flagged};
+ghost use Rattle.short_list.specs.Lists.{items};
 ghost use Rattle.std.proofs.Common.{rules};
 
-use arrayvec::ArrayVec;
 use format::refusal::Refusal;
 use map::interface::{MOST_FRAMES, MOST_PAGES, Map};
-use std::mem;
+use short_list::list::ShortList;
 
 // A frame for each page, and for each frame whether it is free.
-#[derive(Debug, PartialEq, Eq, Drop)]
+#[derive(Clone, Copy, Debug, PartialEq, Eq)]
 pub struct PageTable {
-    listed: ArrayVec<u8, MOST_PAGES>,
+    listed: ShortList<u8, MOST_PAGES>,
     flags: [bool; MOST_FRAMES],
     ghost sized: { length flags ≡ 256 },
-    ghost lawful: { Lawful listed.items (flagged flags) },
+    ghost lawful: { Lawful (items listed) (flagged flags) },
 }
 
 // Whether the listed frames, and the flags of the free ones, keep the law of a map.
-fn keeps_law(listed: &ArrayVec<u8, MOST_PAGES>, flags: &[bool; MOST_FRAMES]) -> bool
-    ensures { Decides result (Lawful listed.now.items (flagged flags.now)) }
+fn keeps_law(listed: &[u8], flags: &[bool; MOST_FRAMES]) -> bool
+    ensures { Decides result (Lawful listed.now (flagged flags.now)) }
 {
-    if listed.is_empty() || flags[0] {
+    if listed.is_empty() || listed.len() > MOST_PAGES || flags[0] {
         return false;
     }
     // A loop, whose invariant is the whole proof; tried by `.iter().enumerate().all(..)`, and the goal `returns-then-not-flags`
@@ -50,20 +50,20 @@ impl PageTable {
     pub fn new(listed: &[u8], free: &[u8]) -> Result<PageTable, Refusal>
         ensures { MatchResult result
             (λ t. Lawful listed.now (among free.now)
-            × (t.listed.items ≡ listed.now) × ((f : ℕ) → flagged t.flags f ≡ among free.now f))
+            × (items t.listed ≡ listed.now) × ((f : ℕ) → flagged t.flags f ≡ among free.now f))
             (λ e. (e ≡ Refusal.MapUnlawful) × (Lawful listed.now (among free.now) → ⊥)) }
     {
-        let listed = ArrayVec::try_from(listed).map_err(|_| Refusal::MapUnlawful)?;
         let flags = flags_of(free);
-        if !keeps_law(&listed, &flags) {
+        if !keeps_law(listed, &flags) {
             return Err(Refusal::MapUnlawful);
         }
+        let listed = ShortList::try_from(listed).map_err(|_| Refusal::MapUnlawful)?;
         Ok(PageTable { listed, flags })
     }
 }
 
 impl Map for PageTable {
-    ghost frames = { λ t. t.listed.items };
+    ghost frames = { λ t. items t.listed };
 
     ghost free = { λ t. flagged t.flags };
 
@@ -83,7 +83,8 @@ impl Map for PageTable {
 
     fn put(&mut self, page: usize, frame: u8) -> Result<(), Refusal> {
         if page < self.listed.len() && self.flags[usize::from(frame)] {
-            let old = mem::replace(&mut self.listed[page], frame);
+            let old = self.listed[page];
+            self.listed.set(page, frame);
             self.flags[usize::from(frame)] = false;
             self.flags[usize::from(old)] = true;
             Ok(())

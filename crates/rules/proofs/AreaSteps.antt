@@ -1,5 +1,5 @@
 -- Areas, direct or by words: the number of rounds allowed does not matter, one step, and what stands before it.
-use Rattle.std.proofs.Common.{◌≡◌, ℕ, zero, suc, ◌+◌, ◌-◌, ◌*◌, ◌<◌, ◌≤◌, min, Bool, true, false, not, ◌&&◌, ltb, List, [], ◌∷◌, ◌++◌, Ok, Err, Result, sym, refl, ap, ◌∙◌, append_assoc, arith, ltb-false}
+use Rattle.std.proofs.Common.{◌≡◌, ℕ, zero, suc, ◌+◌, ◌-◌, ◌*◌, ◌%◌, ◌<◌, ◌≤◌, min, Bool, true, false, not, ◌&&◌, ltb, List, [], ◌∷◌, ◌++◌, IfOk, Ok, Err, Result, sym, refl, ap, ◌∙◌, append_assoc, arith, ltb-false, eqb-true}
 use Rattle.format.specs.Bytes.{Reader, word_at}
 use Rattle.rules.specs.declared.place.Broken.{Broken}
 use Rattle.rules.specs.declared.pieces.Piece.{Piece}
@@ -57,6 +57,10 @@ later_enters true false e f = sym e
 later_enters false true e f = refl
 later_enters false false e f = f
 
+enters_serves : (back : Bool) (v : ℕ) → enters back v ≡ true → serves back v ≡ 2048
+enters_serves false v e = let h = eqb-true (v % 2048) 0 e in omega arith
+enters_serves true v e = let h = eqb-true (v % 2048) 2047 e in omega arith
+
 module _ (back : Bool) (L : ℕ) (b : Reader) (ccw : ℕ) where
   -- what a word that passes gives
   pub word_ok : (later : Bool) (at left : ℕ) (p : Piece) → one_word back L b ccw later at left ≡ Ok p
@@ -69,6 +73,16 @@ module _ (back : Bool) (L : ℕ) (b : Reader) (ccw : ℕ) where
       let u9 = unless_ok (later && not (enters back v)) _ ccw _ p u8.1 in
       let u10 = unless_ok (outside back L v n) _ ccw _ p u9.1 in
       (ltb-false L (at + 4) u8.0, u9.0, u10.0, let z = u10.1 in cc)
+
+  -- the size of the piece that it serves
+  pub word_made : (later : Bool) (at left : ℕ) (r : Result Piece Broken) → r ≡ one_word back L b ccw later at left → 0 < left
+      → IfOk r (λ p. (0 < p.size) × (p.size ≤ left) × (later ≡ true → p.size ≡ min left 2048) × (at + 4 ≤ L))
+  word_made later at left (Err e) h some = tt
+  word_made later at left (Ok p) h some =
+      let w = word_ok later at left p (sym h) in
+      let s = serves_some back (word_at b at) in
+      let z = ap (λ (q : Piece). q.size) w.3 in
+      (omega arith, omega arith, λ l. let f = enters_serves back (word_at b at) (later_enters later (enters back (word_at b at)) w.1 l) in omega arith, w.0)
 
   word_sized : (later : Bool) (at left : ℕ) (p : Piece) → 0 < left → one_word back L b ccw later at left ≡ Ok p → (0 < p.size) × (p.size ≤ left)
   word_sized later at left p h e =

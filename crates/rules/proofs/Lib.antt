@@ -1,3 +1,4 @@
+pub mod Decoding
 pub mod AreaSteps
 pub mod Passing
 pub mod Shapes

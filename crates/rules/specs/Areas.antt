@@ -2,12 +2,13 @@
 -- upward or (for read backward) downward, direct or by a list of indirect words, and it is cut into
 -- pieces, each inside one block.
 use Rattle.std.specs.Prelude.{◌≡◌, ℕ, zero, suc, ◌+◌, ◌-◌, ◌%◌, ◌<◌, min, max, Bool, true, false, cond, not, ◌&&◌, ◌||◌, List, [], ◌∷◌, ◌++◌, Ok, Result, ◌==◌, nat_lt}
-use Rattle.arrayvec.specs.ArrayVec.{ArrayVec}
 use Rattle.format.specs.declared.refusal.Refusal.TheVariants.{WordOutside, WordOffBoundary, AreaOutside}
 use Rattle.format.specs.Bytes.{Reader, word_at}
 use Rattle.rules.specs.declared.place.Broken.{Broken}
 use Rattle.rules.specs.declared.pieces.Piece.{Piece}
 use Rattle.rules.specs.Rules.{unless, bind}
+use Rattle.short_list.specs.declared.list.ShortList.{ShortList}
+use Rattle.short_list.specs.Lists.{items}
 
 -- the bytes of a block, and of an indirect word
 abbrev pub block : ℕ
@@ -16,8 +17,8 @@ block = 2048
 abbrev pub word_size : ℕ
 word_size = 4
 
-abbrev pub listed : ArrayVec Piece → List Piece
-listed pieces = pieces.items
+abbrev pub listed : {N : ℕ} → ShortList Piece N → List Piece
+listed pieces = items pieces
 
 -- In what follows `back` says whether the area goes downward.
 

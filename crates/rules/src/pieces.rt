@@ -1,4 +1,4 @@
-use arrayvec::ArrayVec;
+use short_list::list::ShortList;
 
 // The bytes of a block: no piece is longer.
 pub const BLOCK: usize = 2048;
@@ -14,4 +14,4 @@ pub struct Piece {
 }
 
 // The pieces of an area, in the order of the transfer.
-pub type Pieces = ArrayVec<Piece, MOST_PIECES>;
+pub type Pieces = ShortList<Piece, MOST_PIECES>;

@@ -33,7 +33,7 @@ impl From<Broken> for Refusal {
 }
 
 // A CCW taken up.
-#[derive(Debug, Default, PartialEq, Eq, Drop)]
+#[derive(Clone, Copy, Debug, Default, PartialEq, Eq)]
 pub struct Taken {
     pub ccw: Placed<Ccw>,
     // the command in force before it

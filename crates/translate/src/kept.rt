@@ -5,7 +5,7 @@ use walk::own_bytes::OwnBytes;
 pub mod making;
 
 // What is kept of a translated program besides its frame. No `PartialEq`, since its back table has none.
-#[derive(Debug, Drop)]
+#[derive(Clone, Copy, Debug)]
 pub struct Kept {
     pub back: BackTable,
     pub own: OwnBytes,

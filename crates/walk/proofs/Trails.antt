@@ -83,40 +83,65 @@ cells_more : (xs : List Cell) (t : Cell) (r : Result Trail Broken) → with_cell
 cells_more xs t (Ok w) = ap (λ x. Ok (record { cells = x; closes = w.closes })) (sym (append_assoc xs (t ∷ []) w.cells))
 cells_more xs t (Err e) = refl
 
--- the cells there are, with those still to come from a place on
-abbrev pub whole : ℕ → Reader → List Cell → ℕ → ℕ → Bool → Option ℕ → Result Trail Broken
-whole L b xs n a first command = with_cells xs (walk (65 - length xs) L b xs n a first command)
+pub cells_none : (r : Result Trail Broken) → with_cells [] r ≡ r
+cells_none (Ok w) = refl
+cells_none (Err e) = refl
 
-module _ (L : ℕ) (b : Reader) (xs : List Cell) (n a : ℕ) (first : Bool) (command : Option ℕ) (few : length xs ≤ 64) where
+module _ (rounds L : ℕ) (b : Reader) (xs seen : List Cell) (n a : ℕ) (first : Bool) (command : Option ℕ) where
   abbrev on_from : Cell → Result Trail Broken
-  on_from t = walk (64 - length xs) L b (xs ++ t ∷ []) (n + length t.pieces) (t.ccw.address + 8) false (carried t)
+  on_from t = walk rounds L b (seen ++ t ∷ []) (n + length t.pieces) (t.ccw.address + 8) false (carried t)
 
-  at_place : (s : Result Seen Broken) → s ≡ one_place L b xs n a first command → whole L b xs n a first command ≡ with_cells xs (bind s (onward on_from))
+  at_place : (s : Result Seen Broken) → s ≡ one_place L b seen n a first command → with_cells xs (walk (suc rounds) L b seen n a first command) ≡ with_cells xs (bind s (onward on_from))
   unfolding walk
-  at_place s e =
-      let rounds : 65 - length xs ≡ suc (64 - length xs) = omega arith in
-      ap (λ k. with_cells xs (walk k L b xs n a first command)) rounds ∙ ap (λ (r : Result Seen Broken). with_cells xs (bind r (onward on_from))) (sym e)
+  at_place s e = ap (λ (r : Result Seen Broken). with_cells xs (bind r (onward on_from))) (sym e)
 
-  pub place_on : (t : Cell) → Ok (fresh t) ≡ one_place L b xs n a first command → goes_on t ≡ true
-      → whole L b xs n a first command ≡ whole L b (xs ++ t ∷ []) (n + length t.pieces) (t.ccw.address + 8) false (carried t)
+  pub place_on : (t : Cell) → Ok (fresh t) ≡ one_place L b seen n a first command → goes_on t ≡ true
+      → with_cells xs (walk (suc rounds) L b seen n a first command) ≡ with_cells (xs ++ t ∷ []) (walk rounds L b (seen ++ t ∷ []) (n + length t.pieces) (t.ccw.address + 8) false (carried t))
   place_on t e g =
-      let rounds : 64 - length xs ≡ 65 - length (xs ++ t ∷ []) = omega (arith, length_push xs t) in
       at_place (Ok (fresh t)) e
       ∙ ap (λ w. with_cells xs (cond w (with_cell t (on_from t)) (Ok (record { cells = t ∷ []; closes = None })))) g
       ∙ cells_more xs t (on_from t)
-      ∙ ap (λ k. with_cells (xs ++ t ∷ []) (walk k L b (xs ++ t ∷ []) (n + length t.pieces) (t.ccw.address + 8) false (carried t))) rounds
 
-  pub place_last : (t : Cell) → Ok (fresh t) ≡ one_place L b xs n a first command → goes_on t ≡ false
-      → whole L b xs n a first command ≡ Ok (record { cells = xs ++ t ∷ []; closes = None })
+  pub place_last : (t : Cell) → Ok (fresh t) ≡ one_place L b seen n a first command → goes_on t ≡ false
+      → with_cells xs (walk (suc rounds) L b seen n a first command) ≡ Ok (record { cells = xs ++ t ∷ []; closes = None })
   place_last t e g =
       at_place (Ok (fresh t)) e
       ∙ ap (λ w. with_cells xs (cond w (with_cell t (on_from t)) (Ok (record { cells = t ∷ []; closes = None })))) g
 
-  pub place_met : (j : ℕ) → Ok (again j) ≡ one_place L b xs n a first command → whole L b xs n a first command ≡ Ok (record { cells = xs; closes = Some j })
+  pub place_met : (j : ℕ) → Ok (again j) ≡ one_place L b seen n a first command → with_cells xs (walk (suc rounds) L b seen n a first command) ≡ Ok (record { cells = xs; closes = Some j })
   place_met j e = at_place (Ok (again j)) e ∙ ap (λ x. Ok (record { cells = x; closes = Some j })) (append-nil xs)
 
-  pub place_off : (x : Broken) → Err x ≡ one_place L b xs n a first command → whole L b xs n a first command ≡ Err x
+  pub place_off : (x : Broken) → Err x ≡ one_place L b seen n a first command → with_cells xs (walk (suc rounds) L b seen n a first command) ≡ Err x
   place_off x e = at_place (Err x) e
+
+-- the cells there are, with those still to come from a place on
+abbrev pub whole : ℕ → Reader → List Cell → ℕ → ℕ → Bool → Option ℕ → Result Trail Broken
+whole L b xs n a first command = with_cells xs (walk (65 - length xs) L b xs n a first command)
+
+-- one turn of the walk over them
+module _ (L : ℕ) (b : Reader) (xs : List Cell) (n a : ℕ) (first : Bool) (command : Option ℕ) (few : length xs ≤ 64) where
+  one_round : whole L b xs n a first command ≡ with_cells xs (walk (suc (64 - length xs)) L b xs n a first command)
+  one_round =
+      let rounds : 65 - length xs ≡ suc (64 - length xs) = omega arith in
+      ap (λ k. with_cells xs (walk k L b xs n a first command)) rounds
+
+  pub turn_on : (t : Cell) → Ok (fresh t) ≡ one_place L b xs n a first command → goes_on t ≡ true
+      → whole L b xs n a first command ≡ whole L b (xs ++ t ∷ []) (n + length t.pieces) (t.ccw.address + 8) false (carried t)
+  turn_on t e g =
+      let rounds : 64 - length xs ≡ 65 - length (xs ++ t ∷ []) = omega (arith, length_push xs t) in
+      one_round
+      ∙ place_on (64 - length xs) L b xs xs n a first command t e g
+      ∙ ap (λ k. with_cells (xs ++ t ∷ []) (walk k L b (xs ++ t ∷ []) (n + length t.pieces) (t.ccw.address + 8) false (carried t))) rounds
+
+  pub turn_last : (t : Cell) → Ok (fresh t) ≡ one_place L b xs n a first command → goes_on t ≡ false
+      → whole L b xs n a first command ≡ Ok (record { cells = xs ++ t ∷ []; closes = None })
+  turn_last t e g = one_round ∙ place_last (64 - length xs) L b xs xs n a first command t e g
+
+  pub turn_met : (j : ℕ) → Ok (again j) ≡ one_place L b xs n a first command → whole L b xs n a first command ≡ Ok (record { cells = xs; closes = Some j })
+  turn_met j e = one_round ∙ place_met (64 - length xs) L b xs xs n a first command j e
+
+  pub turn_off : (x : Broken) → Err x ≡ one_place L b xs n a first command → whole L b xs n a first command ≡ Err x
+  turn_off x e = one_round ∙ place_off (64 - length xs) L b xs xs n a first command x e
 
 -- the place behind a cell, or that it does not go on
 pub behind_some : (t : Cell) (next : Place) → Some next ≡ behind t → (goes_on t ≡ true) × (next ≡ record { address = t.ccw.address + 8; first = false; command = carried t })

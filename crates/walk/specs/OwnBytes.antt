@@ -4,12 +4,13 @@
 use Rattle.std.specs.Prelude.{ℕ, ◌+◌, ◌-◌, ◌*◌, ◌<◌, ◌≤◌, max, Bool, true, false, cond, not, ◌&&◌, ◌||◌, ◌⊎◌, List, [], ◌∷◌, length, is_some, Some, None, Option, nat_lt}
 use Rattle.rules.specs.declared.pieces.Piece.{Piece}
 use Rattle.rules.specs.TakingUp.{Cell, backward, reading}
+use Rattle.short_list.specs.Lists.{items}
 use Rattle.walk.specs.declared.own_bytes.Extent.{Extent}
 use Rattle.walk.specs.declared.own_bytes.OwnBytes.{OwnBytes}
 use Rattle.walk.specs.Walks.{goes_on}
 
 abbrev pub extents_in : OwnBytes → List Extent
-extents_in own = own.extents.items
+extents_in own = items own.extents
 
 abbrev pub ccw_extent : Cell → Extent
 ccw_extent t = record { start = t.ccw.address; size = cond (goes_on t) 16 8 }

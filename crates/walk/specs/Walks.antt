@@ -2,7 +2,6 @@
 -- order in which a place is refused: rules 1 to 3, a place met before, the 65th place, rules 4 to 10, the
 -- 769th word.
 use Rattle.std.specs.Prelude.{ℕ, zero, suc, ◌+◌, ◌^◌, ◌<◌, ◌≤◌, Bool, true, false, cond, ◌&&◌, ◌||◌, List, [], ◌∷◌, ◌++◌, map, length, Some, None, Ok, Err, Option, Result, ◌==◌, nat_lt}
-use Rattle.arrayvec.specs.ArrayVec.{ArrayVec}
 use Rattle.format.specs.declared.ccw.Format.TheVariants.{Zero}
 use Rattle.format.specs.declared.refusal.Refusal.TheVariants.{TooManyPlaces, TooManyWords}
 use Rattle.format.specs.Bytes.{Reader}
@@ -12,13 +11,15 @@ use Rattle.rules.specs.declared.place.Taken.{Taken}
 use Rattle.rules.specs.Rules.{unless, bind}
 use Rattle.rules.specs.Areas.{listed}
 use Rattle.rules.specs.TakingUp.{Cell, cell_of, found, read_up}
+use Rattle.short_list.specs.declared.list.ShortList.{ShortList}
+use Rattle.short_list.specs.Lists.{items}
 use Rattle.walk.specs.declared.cells.Visit.{Visit}
 use Rattle.walk.specs.declared.cells.Visit.TheVariants.{Met, Fresh}
 use Rattle.walk.specs.declared.cells.Walked.{Walked}
 
 -- what a table of cells means
-abbrev pub cells_of : ArrayVec Taken → List Cell
-cells_of cells = map cell_of cells.items
+abbrev pub cells_of : {N : ℕ} → ShortList Taken N → List Cell
+cells_of cells = map cell_of (items cells)
 
 -- a walk that came to its end
 pub record Trail : Type 0 where

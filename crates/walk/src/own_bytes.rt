@@ -1,5 +1,5 @@
 use super::cells::MOST_PLACES;
-use arrayvec::ArrayVec;
+use short_list::list::ShortList;
 
 pub mod asking;
 
@@ -14,7 +14,7 @@ pub struct Extent {
 }
 
 // All bytes of a program: for each CCW its own and those right behind it, and its list.
-#[derive(Debug, PartialEq, Eq, Drop)]
+#[derive(Clone, Copy, Debug, PartialEq, Eq)]
 pub struct OwnBytes {
-    extents: ArrayVec<Extent, MOST_EXTENTS>,
+    extents: ShortList<Extent, MOST_EXTENTS>,
 }

@@ -6,10 +6,10 @@ ghost use Rattle.walk.specs.OwnBytes.{extents_in, ccw_extent, list_extent, exten
 
 use super::super::cells::Cells;
 use super::{Extent, OwnBytes};
-use arrayvec::ArrayVec;
 use format::class::Class;
 use rules::pieces::{Piece, Pieces};
 use rules::place::Taken;
+use short_list::list::ShortList;
 
 fn ccw_bytes(taken: &Taken) -> Extent
     ensures { result ≡ ccw_extent (cell_of taken.now) }
@@ -58,7 +58,7 @@ impl OwnBytes {
         ensures { extents_in result ≡ [] }
     {
         OwnBytes {
-            extents: ArrayVec::new(),
+            extents: ShortList::new(),
         }
     }
 

@@ -6,6 +6,7 @@ use Rattle.rules.specs.TakingUp.{cell_of}
 use Rattle.walk.specs.Walks.{cells_of}
 use Rattle.translate.specs.Translations.{data_in}
 use Rattle.translate.proofs.Marks.{cell_marked, no_data_in}
+use Rattle.short_list.specs.Lists.{items}
 use Rattle.translate.proofs.data_pages.data_pages_of.Goals as goal
 
 pub loop-taken-init : goal.loop-taken-init
@@ -32,7 +33,7 @@ loop-taken-preserved c =
 
 pub returns : goal.returns
 returns c =
-    let xs = c.args.cells.now.items in
+    let xs = (items c.args.cells.now) in
     let flags = c.loop-taken.pages.flags in
     let none = nil_from_length _ c.in-None.ensures.steps.0 in
     fill_by_all (data_in (map cell_of xs)) flags 128 false c.loop-taken.invariant.1

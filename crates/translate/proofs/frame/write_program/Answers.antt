@@ -5,6 +5,7 @@ use Rattle.rules.specs.TakingUp.{cell_of}
 use Rattle.walk.specs.Walks.{cells_of}
 use Rattle.translate.specs.Frames.{cells_bytes, closing_bytes}
 use Rattle.translate.proofs.Puts.{put_more, put_zeros, length-cells}
+use Rattle.short_list.specs.Lists.{items}
 use Rattle.translate.proofs.frame.write_program.Goals as goal
 
 pub returns : goal.returns
@@ -16,7 +17,7 @@ returns c =
     let closing = closing_bytes w.closes in
     let at = 8 * c.len.result in
     let size = length-cells cells 1024 in
-    let count = length-map w.cells.items cell_of in
+    let count = length-map (items w.cells) cell_of in
     let behind : at ≡ 0 + length written = omega (arith, c.len.ensures.value) in
     c.write_closing.ensures
     ∙ ap (put_at at closing) c.write_cells.ensures

@@ -2,6 +2,7 @@ use Rattle.std.proofs.Common.{◌≡◌, ◌+◌, ◌-◌, ◌*◌, ◌<◌, min
 use Rattle.std.proofs.lemmas.List.{append-nil}
 use Rattle.rules.specs.Areas.{listed, cut, serves, onward}
 use Rattle.rules.proofs.AreaSteps.{cut_step, cut_none, cutting}
+use Rattle.short_list.specs.Lists.{items}
 use Rattle.rules.proofs.area.Area.cut.Goals as goal
 
 pub loop-left-preserved : goal.loop-left-preserved
@@ -14,17 +15,18 @@ loop-left-preserved g c =
     let size : n ≡ min left (serves k at) = search rules in
     let some : 0 < left = omega arith in
     let on = c.step_on-at.ensures in
-    let room_on : (0 < left - n) → (serves k c.step_on-at.result ≡ 2048) × (left - n + 2048 * (length c.loop-left.pieces.items + 1) < c.args.self.now.ccw.value.count + 2048) =
-    rw on (cutting k at left (length c.loop-left.pieces.items) c.args.self.now.ccw.value.count n size inv.1 inv.4 inv.3) in (
+    let fits : length (items c.loop-left.pieces) < 33 = search rules in
+    let room_on : (0 < left - n) → (serves k c.step_on-at.result ≡ 2048) × (left - n + 2048 * (length (items c.loop-left.pieces) + 1) < c.args.self.now.ccw.value.count + 2048) =
+    rw on (cutting k at left (length (items c.loop-left.pieces)) c.args.self.now.ccw.value.count n size inv.1 inv.4 inv.3) in (
       ap (λ x. listed c.push.new.self ++ cut k (left - n) x (left - n)) on
-          ∙ ap (λ x. x ++ cut k (left - n) (onward k at n) (left - n)) c.push.ensures.items
+          ∙ ap (λ x. x ++ cut k (left - n) (onward k at n) (left - n)) (c.push.ensures.room fits)
           ∙ append_assoc (listed c.loop-left.pieces) _ _
           ∙ ap (λ x. listed c.loop-left.pieces ++ x) (sym (cut_step k at left n some size))
           ∙ inv.0,
       omega arith,
       search rules,
       search rules,
-      λ h more. let r = room_on more in (r.0, rw c.push.ensures.len r.1),
+      λ h more. let r = room_on more in (r.0, rw (c.push.ensures.longer fits) r.1),
     )
 
 pub returns : goal.returns

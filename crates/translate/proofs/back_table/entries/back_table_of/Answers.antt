@@ -7,11 +7,12 @@ use Rattle.translate.specs.Fitting.{Below}
 use Rattle.translate.specs.Kept.{addresses_in}
 use Rattle.translate.specs.Translations.{ccw_addresses}
 use Rattle.translate.proofs.Tables.{addresses_more, addresses_none}
+use Rattle.short_list.specs.Lists.{items}
 use Rattle.translate.proofs.back_table.entries.back_table_of.Goals as goal
 
 pub push-requires : goal.push-requires
 push-requires c =
-    let xs = c.args.cells.now.items in
+    let xs = (items c.args.cells.now) in
     let i = c.loop-taken.taken-index in
     let t = c.taken-item.result in
     let inv = c.loop-taken.invariant in
@@ -20,7 +21,7 @@ push-requires c =
 
 pub loop-taken-preserved : goal.loop-taken-preserved
 loop-taken-preserved c =
-    let xs = c.args.cells.now.items in
+    let xs = (items c.args.cells.now) in
     let i = c.loop-taken.taken-index in
     let t = c.taken-item.result in
     let inv = c.loop-taken.invariant in
@@ -38,5 +39,5 @@ loop-taken-preserved c =
 pub returns : goal.returns
 returns c =
     let back = addresses_in c.loop-taken.back in
-    let none = entry_none (λ (l : List Taken). ccw_addresses (map cell_of l)) c.args.cells.now.items c.deref-taken-items.result.now c.loop-taken.taken-index c.deref-taken-items.ensures.0 c.loop-taken-test.false ∙ addresses_none in
+    let none = entry_none (λ (l : List Taken). ccw_addresses (map cell_of l)) (items c.args.cells.now) c.deref-taken-items.result.now c.loop-taken.taken-index c.deref-taken-items.ensures.0 c.loop-taken-test.false ∙ addresses_none in
     sym (append-nil back) ∙ ap (λ x. back ++ x) (sym none) ∙ c.loop-taken.invariant.0

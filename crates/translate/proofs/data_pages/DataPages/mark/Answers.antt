@@ -13,7 +13,7 @@ loop-piece-preserved c =
     let inv = c.loop-piece.invariant in (
       (λ page k.
           ap (λ x. get_or x page false || piece_in page rest) c.mark_page.ensures
-          ∙ piece_marked flags piece rest page (omega (arith, inv.1))
+          ∙ piece_marked flags piece rest page (λ same. omega (arith, inv.1))
           ∙ ap (λ (l : List Piece). get_or flags page false || piece_in page l) (sym c.in-Some.ensures.steps)
           ∙ inv.0 page k),
       ap length c.mark_page.ensures ∙ length-set flags (piece.first / 4096) true ∙ inv.1,

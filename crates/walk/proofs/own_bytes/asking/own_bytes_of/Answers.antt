@@ -5,11 +5,12 @@ use Rattle.rules.specs.TakingUp.{cell_of}
 use Rattle.walk.specs.OwnBytes.{extents_in, extents_of}
 use Rattle.walk.proofs.Trails.{entry_at, entry_none}
 use Rattle.walk.proofs.Touching.{extents_more, extents_none}
+use Rattle.short_list.specs.Lists.{items}
 use Rattle.walk.proofs.own_bytes.asking.own_bytes_of.Goals as goal
 
 pub loop-taken-preserved : goal.loop-taken-preserved
 loop-taken-preserved c =
-    let xs = c.args.cells.now.items in
+    let xs = (items c.args.cells.now) in
     let i = c.loop-taken.taken-index in
     let t = c.taken-item.result in
     let es = extents_in c.loop-taken.own in
@@ -25,5 +26,5 @@ loop-taken-preserved c =
 pub returns : goal.returns
 returns c =
     let es = extents_in c.loop-taken.own in
-    let end = entry_none (λ (l : List Taken). es ++ extents_of (map cell_of l)) c.args.cells.now.items c.deref-taken-items.result.now c.loop-taken.taken-index c.deref-taken-items.ensures.0 c.loop-taken-test.false in
+    let end = entry_none (λ (l : List Taken). es ++ extents_of (map cell_of l)) (items c.args.cells.now) c.deref-taken-items.result.now c.loop-taken.taken-index c.deref-taken-items.ensures.0 c.loop-taken-test.false in
     sym (append-nil es) ∙ ap (λ x. es ++ x) (sym extents_none) ∙ sym end ∙ c.loop-taken.invariant.0

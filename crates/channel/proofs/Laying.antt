@@ -98,6 +98,10 @@ module _ {m : Machine} (laws : Laws m) (k : Bool) where
       ap (λ x. length (due (m.pending x))) f ∙ ap length (given_due laws p.size s) ∙ length-drop p.size (due (m.pending s)) in
       omega (arith, l)
 
+-- a piece of no bytes
+abbrev pub no_piece : Piece
+no_piece = record { first = 0; size = 0 }
+
 run_read : (v n : ℕ) (st : List ℕ) → v + n ≤ length st → map (reader st) (run false v n) ≡ take n (drop v st)
 unfolding run
 run_read v zero st h = refl

@@ -1,6 +1,7 @@
 -- What the shape of an area gives the moves.
-use Rattle.std.proofs.Common.{◌≡◌, ℕ, ◌+◌, ◌-◌, ◌≤◌, min, Bool, true, false, cond, not, ltb, List, [], ◌∷◌, length, take, set, sym, refl, ap, ◌∙◌, arith, length-append, length-take}
+use Rattle.std.proofs.Common.{◌≡◌, ℕ, zero, suc, ◌+◌, ◌-◌, ◌<◌, ◌≤◌, min, Bool, true, false, cond, not, ltb, List, [], ◌∷◌, length, get_or, take, set, sym, refl, ap, ◌∙◌, subst, arith, length-append, length-take}
 use Rattle.std.proofs.Math.ListN.{length-map}
+use Rattle.std.proofs.lemmas.List.{get_or-take}
 use Rattle.std.proofs.lemmas.Bool.{lt-ltb, le-ltb, ltb-false, ltb-true, not-false, or_parts, or_from}
 use Rattle.rules.specs.declared.pieces.Piece.{Piece}
 use Rattle.rules.specs.Areas.{outside, area, sizes, Shaped}
@@ -11,7 +12,7 @@ use Rattle.device.specs.Machine.{Machine, due, room}
 use Rattle.rules.specs.Soundness.{Sound}
 use Rattle.rules.specs.TakingUp.{Cell, backward, reading}
 use Rattle.channel.specs.Moves.{lay, addresses_of, gathered, moved_count}
-use Rattle.channel.proofs.Laying.{length_run}
+use Rattle.channel.proofs.Laying.{length_run, no_piece}
 
 outside_wider : (k : Bool) (L M v n : ℕ) → L ≤ M → outside k L v n ≡ false → outside k M v n ≡ false
 outside_wider false L M v n h e = le-ltb M (v + n) (omega (arith, ltb-false L (v + n) e))
@@ -43,6 +44,22 @@ unfolding Shaped
 rest_next k L p ps r =
     let s = r.shaped in
     (s.3, let m = serves_most k p.first in omega (arith, s.1), record { later = true; left = r.left - p.size; shaped = s.4 })
+
+-- each piece of a shaped area
+shaped_at : (k : Bool) (L : ℕ) (later : Bool) (left : ℕ) (ps : List Piece) → Shaped k L later left ps → (i : ℕ) → i < length ps
+    → (outside k L (get_or ps i no_piece).first (get_or ps i no_piece).size ≡ false) × ((get_or ps i no_piece).size ≤ 2048)
+unfolding Shaped
+shaped_at k L later left [] s i h = absurd (omega arith)
+shaped_at k L later left (p ∷ ps) s zero h = (s.3, let r = serves_most k p.first in omega (arith, s.1))
+shaped_at k L later left (p ∷ ps) s (suc i) h = shaped_at k L true (left - p.size) ps s.4 i (omega arith)
+
+-- the same of a table
+pub table_at : (k : Bool) (L left : ℕ) (items : List Piece) (len : ℕ) → Shaped k L false left (take len items) → len ≤ length items → (i : ℕ) → i < len
+    → (outside k L (get_or items i no_piece).first (get_or items i no_piece).size ≡ false) × ((get_or items i no_piece).size ≤ 2048)
+table_at k L left items len s l i h =
+    let b : i < length (take len items) = simp length-take (omega arith) in
+    let P : Piece → Type 0 = λ p. (outside k L p.first p.size ≡ false) × (p.size ≤ 2048) in
+    subst P (get_or-take len items i no_piece h) (shaped_at k L false left (take len items) s i b)
 
 pub length-area : (k : Bool) (ps : List Piece) → length (area k ps) ≡ sizes ps
 unfolding area

@@ -119,7 +119,7 @@ write_changes_no_other_block parts s block at_rest whole apart =
     )
 
 -- located blocks are written, and the others stay
-write_keeps : (start blocks : ℕ) (parts : List (List ℕ)) (s : State) (block : ℕ) → Idle s → length s.core.bytes ≡ 32768 → range_exists start blocks ≡ true → NotLocated block (Some (place_of start blocks)) → block_at block (written parts (located start blocks s)).core.bytes ≡ block_at block s.core.bytes
+pub write_keeps : (start blocks : ℕ) (parts : List (List ℕ)) (s : State) (block : ℕ) → Idle s → length s.core.bytes ≡ 32768 → range_exists start blocks ≡ true → NotLocated block (Some (place_of start blocks)) → block_at block (written parts (located start blocks s)).core.bytes ≡ block_at block s.core.bytes
 write_keeps start blocks parts s block at_rest whole exists apart =
     let there = Some (place_of start blocks) in
     ap (λ x. block_at block (written parts (located start blocks x)).core.bytes) (is_idle s at_rest)
@@ -128,7 +128,7 @@ write_keeps start blocks parts s block at_rest whole exists apart =
     ∙ kept_block block parts there s.core.bytes whole (in_range (eqb blocks 0) start blocks exists) apart
 
 -- what a buffer of their size holds after located blocks are read
-read_fills : (start blocks r : ℕ) (buffer filled : List ℕ) (s : State) → Idle s → range_exists start blocks ≡ true → length buffer ≡ size_of blocks → r ≡ min (length buffer) (length (to_read (located start blocks s))) → filled ≡ take (length buffer) (to_read (located start blocks s)) ++ drop r buffer → filled ≡ blocks_at start blocks s.core.bytes
+pub read_fills : (start blocks r : ℕ) (buffer filled : List ℕ) (s : State) → Idle s → range_exists start blocks ≡ true → length buffer ≡ size_of blocks → r ≡ min (length buffer) (length (to_read (located start blocks s))) → filled ≡ take (length buffer) (to_read (located start blocks s)) ++ drop r buffer → filled ≡ blocks_at start blocks s.core.bytes
 read_fills start blocks r buffer filled s at_rest exists size moved fills =
     let here = blocks_at start blocks s.core.bytes in
     let due_now : to_read (located start blocks s) ≡ here =
@@ -150,10 +150,10 @@ at_rest_after start blocks parts s at_rest exists =
     ∙ ap (written parts) (located_there s.sense start blocks s.core.location s.core.bytes exists)
     ∙ written_there s.sense parts (place_of start blocks) s.core.bytes
 
-idle_after : (start blocks : ℕ) (parts : List (List ℕ)) (s : State) → Idle s → range_exists start blocks ≡ true → Idle (written parts (located start blocks s))
+pub idle_after : (start blocks : ℕ) (parts : List (List ℕ)) (s : State) → Idle s → range_exists start blocks ≡ true → Idle (written parts (located start blocks s))
 idle_after start blocks parts s at_rest exists = ap disk_machine.pending (at_rest_after start blocks parts s at_rest exists)
 
-held_after : (start blocks : ℕ) (bytes : List ℕ) (s : State) → Idle s → length s.core.bytes ≡ 32768 → range_exists start blocks ≡ true → length bytes ≡ size_of blocks → blocks_at start blocks (written (bytes ∷ []) (located start blocks s)).core.bytes ≡ bytes
+pub held_after : (start blocks : ℕ) (bytes : List ℕ) (s : State) → Idle s → length s.core.bytes ≡ 32768 → range_exists start blocks ≡ true → length bytes ≡ size_of blocks → blocks_at start blocks (written (bytes ∷ []) (located start blocks s)).core.bytes ≡ bytes
 held_after start blocks bytes s at_rest whole exists size =
     let all_bytes : bytes ++ [] ≡ bytes = append-nil bytes in
     let n = size_of blocks in
@@ -164,7 +164,7 @@ held_after start blocks bytes s at_rest whole exists size =
     ∙ written_and_read start blocks n bytes s.core.bytes (in_range (eqb blocks 0) start blocks exists) whole size refl
 
 -- a read of located blocks leaves the bytes
-read_keeps : (start blocks : ℕ) (sizes : List ℕ) (s : State) → Idle s → range_exists start blocks ≡ true → (after_read sizes (located start blocks s)).core.bytes ≡ s.core.bytes
+pub read_keeps : (start blocks : ℕ) (sizes : List ℕ) (s : State) → Idle s → range_exists start blocks ≡ true → (after_read sizes (located start blocks s)).core.bytes ≡ s.core.bytes
 read_keeps start blocks sizes s at_rest exists =
     let there : State = idle s.sense (Some (place_of start blocks)) s.core.bytes in
     ap (λ x. (after_read sizes (located start blocks x)).core.bytes) (is_idle s at_rest)

@@ -27,5 +27,10 @@ pub fn skip<D: Device>(count: usize, device: &mut D) -> usize
     for _ in 0..count / SCRATCH {
         moved += skip_block(SCRATCH, device);
     }
-    moved + skip_block(count % SCRATCH, device)
+    // Where nothing is left, the device is not asked.
+    let rest = count % SCRATCH;
+    if rest == 0 {
+        return moved;
+    }
+    moved + skip_block(rest, device)
 }

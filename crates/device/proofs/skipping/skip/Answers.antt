@@ -20,3 +20,6 @@ loop-preserved g c =
 
 pub returns-clause-parts : goal.returns-clause-parts
 returns-clause-parts g c = parts_are_one_move g.D.Device.laws
+
+pub returns-then-rest-eq0-clause-parts : goal.returns-then-rest-eq0-clause-parts
+returns-then-rest-eq0-clause-parts g c = parts_are_one_move g.D.Device.laws

@@ -24,8 +24,17 @@ pub fn hand_out(buffer: &mut [u8], bytes: &[u8], gone: usize) -> usize
     copy_first(buffer, &bytes[start..])
 }
 
+// Writes the bytes behind the first `used` of the sheet, as many as it holds, and says how many.
+pub fn append(sheet: &mut [u8], used: usize, bytes: &[u8]) -> usize
+    ensures count { result ≡ min (length bytes.now) (length sheet.old - used) }
+    ensures appended { take (used + result) sheet.new ≡ take used sheet.old ++ take (length sheet.old - used) bytes.now }
+{
+    let start = used.min(sheet.len());
+    copy_first(&mut sheet[start..], bytes)
+}
+
 // Keeps the bytes behind those that are held, as many as there is room for, and says how many.
-pub fn append<const N: usize>(held: &mut ArrayVec<u8, N>, bytes: &[u8]) -> usize
+pub fn append_to<const N: usize>(held: &mut ArrayVec<u8, N>, bytes: &[u8]) -> usize
     ensures count { result ≡ min (length bytes.now) (N - array_vec_len held.old) }
     ensures appended { held.new.items ≡ held.old.items ++ take (N - array_vec_len held.old) bytes.now }
 {

@@ -12,7 +12,7 @@ use arrayvec::ArrayVec;
 use device::interface::Begun;
 use format::laying::put_at;
 use std::mem;
-use unit::copying::{append, hand_out};
+use unit::copying::{append_to, hand_out};
 use unit::model::{Fault, Model as DeviceModel};
 use unit::sense::COMMAND_REJECT;
 use unit::status::{ENDED, FAILED, REFUSED};
@@ -99,7 +99,7 @@ impl DeviceModel for DiskModel {
 
     fn take(&mut self, bytes: &[u8]) -> usize {
         match &mut self.phase {
-            Phase::Locating(parameters) => append(parameters, bytes),
+            Phase::Locating(parameters) => append_to(parameters, bytes),
             Phase::Writing(extent) => {
                 let n = bytes.len().min(extent.size());
                 put_at(&mut self.bytes, extent.next, &bytes[..n]);

@@ -1,6 +1,7 @@
 -- What the console's fields mean. A reader must believe: paper and line are what they hold, and an open
 -- reading command has still to hand out what lies past the bytes handed out.
 use Rattle.std.specs.Prelude.{ℕ, List, drop}
+use Rattle.short_list.specs.Lists.{items}
 use Rattle.unit.specs.declared.state.Unit.{Unit as Device}
 use Rattle.unit.specs.UnitMachine.{UnitState}
 use Rattle.unit.specs.Meaning.{unit_meaning}
@@ -18,8 +19,8 @@ command_of (ReadingLine gone) waiting = reading_line (drop gone waiting)
 abbrev pub model_meaning : ConsoleModel → ConsoleState
 model_meaning m = record {
   paper = m.paper.items;
-  line = m.line.items;
-  command = command_of m.phase m.line.items;
+  line = items m.line;
+  command = command_of m.phase (items m.line);
 }
 
 -- the whole device

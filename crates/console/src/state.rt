@@ -1,8 +1,9 @@
-ghost use Rattle.std.specs.Prelude.{◌≤◌};
-ghost use Rattle.arrayvec.specs.ArrayVec.{array_vec_len};
+ghost use Rattle.std.specs.Prelude.{◌≤◌, length};
+ghost use Rattle.short_list.specs.Lists.{items};
 ghost use Rattle.console.specs.Handing.{handed};
 
 use arrayvec::ArrayVec;
+use short_list::list::ShortList;
 use unit::state::Unit;
 
 pub mod access;
@@ -22,13 +23,14 @@ enum Phase {
     ReadingLine(usize),
 }
 
-// What is a console's own: what has been printed, the line that waits, and the open command.
+// What is a console's own: what has been printed, the line that waits, and the open command. The line is a short
+// list, which is emptied without a write to its bytes.
 #[derive(Debug, Drop)]
 pub struct ConsoleModel {
     paper: ArrayVec<u8, PAPER>,
-    line: ArrayVec<u8, LINE>,
+    line: ShortList<u8, LINE>,
     phase: Phase,
-    ghost within: { handed phase ≤ array_vec_len line },
+    ghost within: { handed phase ≤ length (items line) },
 }
 
 // The whole device.

@@ -126,37 +126,56 @@ fits_closed sizes all fits few some =
 
 -- the block at an index begins where the blocks before it end, and ends within the bytes
 
-begins_at : (k : ℕ) (sizes all : List ℕ) (reel : ReelState) → stored sizes all ≡ reel → sum sizes ≤ length all → bytes_in (take k reel.blocks) ≡ sum (take k sizes)
+pub begins_at : (k : ℕ) (sizes all : List ℕ) (reel : ReelState) → stored sizes all ≡ reel → sum sizes ≤ length all → bytes_in (take k reel.blocks) ≡ sum (take k sizes)
 begins_at k sizes all reel view there =
     ap (λ r. bytes_in (take k r.blocks)) (sym view) ∙ bytes_before k sizes all there
 
-pub ends_within : (sizes all bytes : List ℕ) (k start n : ℕ) (reel : ReelState) → stored sizes all ≡ reel → ReelFits sizes all → bytes ≡ all → k < length sizes → start ≡ bytes_in (take k reel.blocks) → n ≡ get_or sizes k 0 → start + n ≤ length bytes
-ends_within sizes all bytes k start n reel view fits whole inside before size =
+-- what is left of the bytes from a block's own on is one block more than what is left behind it
+block_size : (k : ℕ) (sizes all : List ℕ) → ReelFits sizes all → k < length sizes → (sum (take (k + 1) sizes) ≡ sum (take k sizes) + get_or sizes k 0) × (0 < get_or sizes k 0) × (sum (take (k + 1) sizes) ≤ length all)
+block_size k sizes all fits inside =
     let there = fits.there in
-    let begins = begins_at k sizes all reel view there in
     let more = sum_by_more (λ x. x) sizes k 0 inside in
-    let part = sum_by-take-le (λ x. x) sizes (k + 1) in
-    omega (arith, ap length whole)
-
--- the block at an index, of bytes that are all of them
-pub found : (sizes all bytes : List ℕ) (k start n : ℕ) (reel : ReelState) → stored sizes all ≡ reel → ReelFits sizes all → bytes ≡ all → k < length sizes → start ≡ bytes_in (take k reel.blocks) → n ≡ get_or sizes k 0 → (k < length reel.blocks) × (take (start + n - start) (drop start bytes) ≡ get_or reel.blocks k []) × (0 < length (take (start + n - start) (drop start bytes))) × (length (take (start + n - start) (drop start bytes)) ≤ 8192)
-found sizes all bytes k start n reel view fits whole inside before size =
-    let there = fits.there in
-    let small = fits.small in
-    let begins : start ≡ sum (take k sizes) = before ∙ begins_at k sizes all reel view there in
-    let filled = fits.filled k inside in
-    let count = cut_count sizes all in
-    let blocks = ap (λ r. length r.blocks) view in
-    let more = sum_by_more (λ x. x) sizes k 0 inside in
-    let part = sum_by-take-le (λ x. x) sizes (k + 1) in
-    let past : start + n - start ≡ n = omega arith in
-    let here = cut_at sizes all k inside in
-    let long : length (take (start + n - start) (drop start bytes)) ≡ n =
-    omega (arith, ap length whole, length-take (start + n - start) (drop start bytes), length-drop start bytes) in (
+    let part = sum_by-take-le (λ x. x) sizes (k + 1) in (
       omega arith,
-      cc,
-      omega arith,
+      fits.filled k inside,
       omega arith,
     )
 
-pub ruleset cuts = (cut_count, cut_at, cut_bytes, bytes_before, truncated, appended, closed, fits_truncated, fits_closed, room_is, ends_within)
+pub begins_within : (sizes all : List ℕ) (k start stop : ℕ) (reel : ReelState) → stored sizes all ≡ reel → ReelFits sizes all → k < length reel.blocks → start ≡ bytes_in (take k reel.blocks) → stop ≡ bytes_in (take (k + 1) reel.blocks) → start ≤ stop
+begins_within sizes all k start stop reel view fits inside before behind =
+    let begins = begins_at k sizes all reel view fits.there in
+    let stops = begins_at (k + 1) sizes all reel view fits.there in
+    let count = cut_count sizes all in
+    let blocks = ap (λ r. length r.blocks) view in
+    let size = block_size k sizes all fits (omega arith) in
+    omega (arith, size.0, size.1)
+
+pub ends_within : (sizes all bytes : List ℕ) (k stop : ℕ) (reel : ReelState) → stored sizes all ≡ reel → ReelFits sizes all → bytes ≡ all → k < length reel.blocks → stop ≡ bytes_in (take (k + 1) reel.blocks) → stop ≤ length bytes
+ends_within sizes all bytes k stop reel view fits whole inside behind =
+    let stops = begins_at (k + 1) sizes all reel view fits.there in
+    let count = cut_count sizes all in
+    let blocks = ap (λ r. length r.blocks) view in
+    let size = block_size k sizes all fits (omega arith) in
+    omega (arith, ap length whole, size.2)
+
+-- the block at an index, of bytes that are all of them
+pub found : (sizes all bytes : List ℕ) (k start stop : ℕ) (reel : ReelState) → stored sizes all ≡ reel → ReelFits sizes all → bytes ≡ all → k < length reel.blocks → start ≡ bytes_in (take k reel.blocks) → stop ≡ bytes_in (take (k + 1) reel.blocks) → (k < length reel.blocks) × (take (stop - start) (drop start bytes) ≡ get_or reel.blocks k []) × (0 < length (take (stop - start) (drop start bytes))) × (length (take (stop - start) (drop start bytes)) ≤ 8192)
+found sizes all bytes k start stop reel view fits whole listed before behind =
+    let small = fits.small in
+    let count = cut_count sizes all in
+    let blocks = ap (λ r. length r.blocks) view in
+    let inside : k < length sizes = omega arith in
+    let begins : start ≡ sum (take k sizes) = before ∙ begins_at k sizes all reel view fits.there in
+    let stops : stop ≡ sum (take (k + 1) sizes) = behind ∙ begins_at (k + 1) sizes all reel view fits.there in
+    let size = block_size k sizes all fits inside in
+    let past : stop - start ≡ get_or sizes k 0 = omega (arith, size.0) in
+    let here = cut_at sizes all k inside in
+    let long : length (take (stop - start) (drop start bytes)) ≡ get_or sizes k 0 =
+    omega (arith, size.0, size.2, ap length whole, length-take (stop - start) (drop start bytes), length-drop start bytes) in (
+      listed,
+      cc,
+      omega (arith, size.1),
+      omega (arith, size.0, size.2),
+    )
+
+pub ruleset cuts = (cut_count, cut_at, cut_bytes, bytes_before, truncated, appended, closed, fits_truncated, fits_closed, room_is, begins_within, ends_within)

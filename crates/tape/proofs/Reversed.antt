@@ -6,7 +6,7 @@ use Rattle.std.proofs.lemmas.List.{take-append-drop, reverse-append}
 split : (j : ℕ) (l : List ℕ) → reverse l ≡ reverse (drop j l) ++ reverse (take j l)
 split j l = ap reverse (sym (take-append-drop j l)) ∙ reverse-append (take j l) (drop j l)
 
-take-reverse : (k : ℕ) (l : List ℕ) → k ≤ length l → take k (reverse l) ≡ reverse (drop (length l - k) l)
+pub take-reverse : (k : ℕ) (l : List ℕ) → k ≤ length l → take k (reverse l) ≡ reverse (drop (length l - k) l)
 take-reverse k l h = let parts = split (length l - k) l in grind (arith, common_steps)
 
 pub drop-reverse : (k : ℕ) (l : List ℕ) → drop k (reverse l) ≡ reverse (take (length l - k) l)

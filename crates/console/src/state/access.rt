@@ -4,13 +4,14 @@ ghost use Rattle.console.specs.Meaning.{meaning, model_meaning};
 
 use super::{Console, ConsoleModel, Phase};
 use arrayvec::ArrayVec;
+use short_list::list::ShortList;
 use unit::state::Unit;
 
 // A console with empty paper and this line waiting, or none if the line is too long.
 pub fn new_console(line: &[u8]) -> Option<Console>
     ensures { MatchOption result (256 < length line.now) (λ made. (length line.now ≤ 256) × (meaning made ≡ at_first line.now)) }
 {
-    let line = ArrayVec::try_from(line).ok()?;
+    let line = ShortList::try_from(line).ok()?;
     Some(Unit::new(ConsoleModel {
         paper: ArrayVec::new(),
         line,

@@ -6,7 +6,7 @@ ghost use Rattle.console.specs.Codes.{decoded};
 
 use super::{ConsoleModel, Phase};
 use device::interface::Begun;
-use unit::copying::{append, hand_out};
+use unit::copying::{append_to, hand_out};
 use unit::model::{Fault, Model as DeviceModel, NOTHING_LEFT};
 use unit::status::ENDED;
 
@@ -91,14 +91,14 @@ impl DeviceModel for ConsoleModel {
 
     fn take(&mut self, bytes: &[u8]) -> usize {
         match self.phase {
-            Phase::Printing => append(&mut self.paper, bytes),
+            Phase::Printing => append_to(&mut self.paper, bytes),
             Phase::Idle | Phase::ReadingLine(_) => 0,
         }
     }
 
     fn end(&mut self) -> Result<u8, Fault> {
         if matches!(self.phase, Phase::ReadingLine(_)) {
-            self.line.clear();
+            self.line.truncate(0);
         }
         self.phase = Phase::Idle;
         Ok(ENDED)

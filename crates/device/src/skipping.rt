@@ -23,14 +23,12 @@ pub fn skip<D: Device>(count: usize, device: &mut D) -> usize
     ensures became { D.state device.new ≡ D.machine.given count (D.state device.old) }
     ensures parts { PartsAreOneMove D.machine }
 {
+    let mut left = count;
     let mut moved = 0;
-    for _ in 0..count / SCRATCH {
-        moved += skip_block(SCRATCH, device);
+    while left > 0 {
+        let size = left.min(SCRATCH);
+        moved += skip_block(size, device);
+        left -= size;
     }
-    // Where nothing is left, the device is not asked.
-    let rest = count % SCRATCH;
-    if rest == 0 {
-        return moved;
-    }
-    moved + skip_block(rest, device)
+    moved
 }

@@ -19,7 +19,7 @@ fn page_of<M: Map>(map: &M, frame: u32) -> Option<usize>
         ((k : ℕ) → k < length (M.frames map.now) → slice_index (M.frames map.now) k ≢ frame)
         (λ page. (page < length (M.frames map.now)) × (slice_index (M.frames map.now) page ≡ frame)) }
 {
-    (0..map.page_count()).find(|page| u32::from(map.frame_of(*page)) == frame)
+    (0..map.page_count()).position(|page| u32::from(map.frame_of(page)) == frame)
 }
 
 // The host address at which a guest address lies.
